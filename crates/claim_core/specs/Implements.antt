@@ -6,6 +6,7 @@ use Rattle.qccd_circuit.specs.Order.{SameOrder}
 use Rattle.qccd_circuit.specs.Circuit.{CircuitData}
 use Rattle.qccd_machine.specs.Machine.{MachineData}
 use Rattle.op_table.specs.declared.kinds.OpKind.TheVariants.{Item}
+use Rattle.op_table.specs.Op.{IsOp}
 use Rattle.op_table.specs.State.{IsSafe}
 use Rattle.op_table.specs.Step.{carries}
 use Rattle.op_table.specs.Run.{IsRun, items_in}
@@ -18,6 +19,7 @@ pub record Implements (p : ProgramData) (c : CircuitData) (m : MachineData) : Ty
   pub qubits : p.qubits ≡ c.qubits
   pub bits : p.bits ≡ c.bits
   pub start : IsStart m p.qubits p.start
+  pub ops : All IsOp p.ops
   pub run : IsRun m (opening_of p) p.ops
   pub items : All (λ e. slice_get c.items e.0 ≡ Some e.1) (items_in p.ops)
   pub order : SameOrder c.items (map (λ e. e.0) (items_in p.ops))

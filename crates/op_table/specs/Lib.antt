@@ -1,3 +1,5 @@
+pub mod Op
+pub mod Example
 pub mod State
 pub mod Step
 pub mod Touch

@@ -1,10 +1,9 @@
 -- Where the ions are, which qubit each carries, and how hot everything is.
-use Rattle.std.specs.Prelude.{◌≡◌, ℕ, zero, suc, ◌+◌, ◌<◌, ◌≤◌, Bool, true, false, ◌&&◌, ◌==◌, List, [], ◌∷◌, length, map, replicate, Option, Some, None, is_some, option_map, get_or, count_by, find, position}
+use Rattle.std.specs.Prelude.{◌≡◌, ℕ, ◌+◌, ◌<◌, ◌≤◌, Bool, false, ◌&&◌, ◌==◌, List, [], ◌∷◌, length, map, replicate, Option, Some, None, option_map, get_or, count_by, find, position}
 use Rattle.std.specs.List.{range_with_len}
 use Rattle.qccd_base.specs.declared.names.Ion.{Ion}
 use Rattle.qccd_base.specs.declared.names.Qubit.{Qubit}
 use Rattle.qccd_base.specs.declared.names.SegEnd.{SegEnd}
-use Rattle.qccd_base.specs.declared.names.SegEnd.TheVariants.{A, B}
 use Rattle.qccd_machine.specs.Machine.{MachineData}
 
 -- where an ion is: in a trap at an index, on a segment at one of its ends, or in a junction; outside

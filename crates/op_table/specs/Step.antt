@@ -112,8 +112,11 @@ needs m s (Item number t item at) =
     ∷ []
 needs m s (Fence number item traps) =
     (NoPlace, list_all (λ t. has_trap m t.0) traps && has_bits s item)
-    ∷ (WrongTraps, list_all (λ q. list_any (λ t. holds_qubit s t.0 q) traps) item.qubits
-        && list_all (λ t. list_any (holds_qubit s t.0) item.qubits) traps)
+    ∷ (
+      WrongTraps,
+      list_all (λ q. list_any (λ t. holds_qubit s t.0 q) traps) item.qubits
+          && list_all (λ t. list_any (holds_qubit s t.0) item.qubits) traps,
+    )
     ∷ []
 
 abbrev pub first_cause : List (Why × Bool) → Option Why
