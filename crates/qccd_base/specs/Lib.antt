@@ -1,1 +1,3 @@
+pub mod Greatest
+pub mod Resource
 pub mod Times

@@ -1,0 +1,5 @@
+pub mod State
+pub mod Step
+pub mod Touch
+pub mod Clock
+pub mod Run

@@ -1,0 +1,7 @@
+//! The operations of a machine: what each touches, when it is legal and what it does.
+#![tactic(auto)]
+
+mod kinds;
+pub mod worked;
+
+pub use kinds::{OpKind, Why};

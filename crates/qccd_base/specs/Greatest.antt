@@ -1,0 +1,6 @@
+use Rattle.std.specs.Prelude.{ℕ, max, List, [], ◌∷◌}
+
+-- the greatest of the numbers, and 0 where there is none
+abbrev pub greatest : List ℕ → ℕ
+greatest [] = 0
+greatest (x ∷ xs) = max x (greatest xs)

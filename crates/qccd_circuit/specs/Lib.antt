@@ -1,0 +1,4 @@
+pub mod Item
+pub mod Sharing
+pub mod Order
+pub mod Circuit

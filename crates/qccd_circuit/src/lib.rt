@@ -1,0 +1,12 @@
+//! Circuits: items on qubits and classical bits, when they fit, and which of them share.
+#![tactic(auto)]
+
+mod circuits;
+mod items;
+mod kinds;
+mod texts;
+
+pub use circuits::Circuit;
+pub use items::Item;
+pub use kinds::{Cond, ItemKind};
+pub use texts::{Angle, AngleList, Name};

@@ -1,0 +1,158 @@
+//! Names and angles, which clauses see as lists of bytes.
+
+ghost use Rattle.std.specs.Prelude.{◌≡◌, ◌==◌, length};
+
+use std::marker::Model;
+
+/// The name of an item, as `h` or `measure`.
+#[derive(Debug, Drop)]
+pub struct Name {
+    bytes: Vec<u8>,
+}
+
+impl Model for Name {
+    ghost use Rattle.std.specs.Prelude.{List, ℕ};
+
+    ghost Value = { List ℕ };
+
+    ghost view = { λ a. a.bytes.items };
+}
+
+impl Name {
+    /// The name of these bytes.
+    pub fn of(vector: Vec<u8>) -> Self
+        ensures { result ≡ vector.items }
+    {
+        Name { bytes: vector }
+    }
+
+    /// The bytes, in order.
+    pub fn as_slice(&self) -> &[u8]
+        ensures { result.now ≡ self.now }
+    {
+        self.bytes.as_slice()
+    }
+
+    /// How many bytes there are.
+    pub fn len(&self) -> usize
+        ensures { result ≡ length self.now }
+    {
+        self.bytes.len()
+    }
+
+    /// Whether there is none.
+    pub fn is_empty(&self) -> bool
+        ensures { result ≡ (length self.now == 0) }
+    {
+        self.bytes.is_empty()
+    }
+
+    /// The vector of the bytes.
+    pub fn into_vec(self) -> Vec<u8>
+        ensures { result.items ≡ self }
+    {
+        self.bytes
+    }
+}
+
+/// An angle of a gate, as the text that the circuit was written with.
+#[derive(Debug, Drop)]
+pub struct Angle {
+    bytes: Vec<u8>,
+}
+
+impl Model for Angle {
+    ghost use Rattle.std.specs.Prelude.{List, ℕ};
+
+    ghost Value = { List ℕ };
+
+    ghost view = { λ a. a.bytes.items };
+}
+
+impl Angle {
+    /// The angle of these bytes.
+    pub fn of(vector: Vec<u8>) -> Self
+        ensures { result ≡ vector.items }
+    {
+        Angle { bytes: vector }
+    }
+
+    /// The bytes, in order.
+    pub fn as_slice(&self) -> &[u8]
+        ensures { result.now ≡ self.now }
+    {
+        self.bytes.as_slice()
+    }
+
+    /// How many bytes there are.
+    pub fn len(&self) -> usize
+        ensures { result ≡ length self.now }
+    {
+        self.bytes.len()
+    }
+
+    /// Whether there is none.
+    pub fn is_empty(&self) -> bool
+        ensures { result ≡ (length self.now == 0) }
+    {
+        self.bytes.is_empty()
+    }
+
+    /// The vector of the bytes.
+    pub fn into_vec(self) -> Vec<u8>
+        ensures { result.items ≡ self }
+    {
+        self.bytes
+    }
+}
+
+/// The angles of an item, in order.
+#[derive(Debug, Drop)]
+pub struct AngleList {
+    angles: Vec<Angle>,
+}
+
+impl Model for AngleList {
+    ghost use Rattle.std.specs.Prelude.{List, ℕ};
+
+    ghost Value = { List (List ℕ) };
+
+    ghost view = { λ a. a.angles.items };
+}
+
+impl AngleList {
+    /// The list of the vector's angles.
+    pub fn of(vector: Vec<Angle>) -> Self
+        ensures { result ≡ vector.items }
+    {
+        AngleList { angles: vector }
+    }
+
+    /// The angles, in order.
+    pub fn as_slice(&self) -> &[Angle]
+        ensures { result.now ≡ self.now }
+    {
+        self.angles.as_slice()
+    }
+
+    /// How many angles there are.
+    pub fn len(&self) -> usize
+        ensures { result ≡ length self.now }
+    {
+        self.angles.len()
+    }
+
+    /// Whether there is none.
+    pub fn is_empty(&self) -> bool
+        ensures { result ≡ (length self.now == 0) }
+    {
+        self.angles.is_empty()
+    }
+
+    /// The vector of the angles.
+    pub fn into_vec(self) -> Vec<Angle>
+        ensures { result.items ≡ self }
+    {
+        self.angles
+    }
+}

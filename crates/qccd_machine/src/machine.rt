@@ -1,0 +1,97 @@
+ghost use Rattle.std.specs.Prelude.{◌≡◌, ◌≤◌, IfOk, length};
+ghost use Rattle.qccd_machine.specs.Machine.{MachineData, IsValid, slots_of};
+ghost use Rattle.qccd_machine.specs.Preset.{single};
+
+use crate::place::{Place, Preset};
+use qccd_base::{NoMemory, Times, TrapId};
+use std::alloc::Global;
+use std::marker::Model;
+
+/// A machine that is valid: at least one trap, each within its limits, and every part within reach.
+#[derive(Debug, Drop)]
+pub struct Machine {
+    capacities: Vec<u8>,
+    junctions: u8,
+    segments: Vec<(Place, Place)>,
+    times: Times,
+}
+
+impl Model for Machine {
+    ghost use Rattle.qccd_machine.specs.Machine.{MachineData, IsValid};
+
+    ghost Value = { MachineData };
+
+    ghost view = { λ m. record {
+      capacities = m.capacities.items;
+      junctions = m.junctions;
+      segments = m.segments.items;
+      times = m.times;
+    } };
+
+    ghost invariant = { λ m. IsValid (record {
+      capacities = m.capacities.items;
+      junctions = m.junctions;
+      segments = m.segments.items;
+      times = m.times;
+    }) };
+}
+
+/// The named machine, with traps of this capacity and the usual times.
+pub fn preset_machine(alloc: Global, which: Preset, capacity: u8) -> Result<Machine, NoMemory>
+    requires one_trap { which ≡ Preset.Single }
+    requires least { 2 ≤ capacity }
+    requires most { capacity ≤ 32 }
+    ensures { IfOk result (λ m. m ≡ single capacity) }
+{
+    let mut capacities = Vec::new(alloc);
+    capacities.push(capacity)?;
+    Ok(Machine {
+        capacities,
+        junctions: 0,
+        segments: Vec::new(alloc),
+        times: Times::usual(),
+    })
+}
+
+impl Machine {
+    /// How many traps there are.
+    pub fn traps(&self) -> u8
+        ensures count { result ≡ length self.now.capacities }
+        ensures valid { IsValid self.now }
+    {
+        self.capacities.len() as u8
+    }
+
+    /// How many segments there are.
+    pub fn segments(&self) -> u8
+        ensures { result ≡ length self.now.segments }
+    {
+        self.segments.len() as u8
+    }
+
+    /// How many junctions there are.
+    pub fn junctions(&self) -> u8
+        ensures { result ≡ self.now.junctions }
+    {
+        self.junctions
+    }
+
+    /// How long each step takes.
+    pub fn times(&self) -> &Times
+        ensures { result.now ≡ self.now.times }
+    {
+        &self.times
+    }
+
+    /// How many qubits the machine takes: the capacities' sum less one, and for one trap its capacity.
+    pub fn slots(&self) -> u32
+        ensures { result ≡ slots_of self.now }
+    {
+        let all: u32 = self.capacities.iter().map(|c| u32::from(*c)).sum();
+        if self.capacities.len() == 1 {
+            all
+        } else {
+            all - 1
+        }
+    }
+}

@@ -1,0 +1,3 @@
+pub mod TimeOrder
+pub mod Report
+pub mod Bell

@@ -1,0 +1,4 @@
+//! The report of a transport program. The definitions stand in `specs/`.
+#![tactic(auto)]
+
+pub mod worked;

@@ -1,0 +1,2 @@
+//! The text of transport programs. The definitions stand in `specs/`.
+#![tactic(auto)]
