@@ -3,8 +3,10 @@
 
 mod lists;
 mod names;
+mod numbers;
 mod times;
 
 pub use lists::{BitList, IonList, PosList, QubitList, TrapList};
 pub use names::{Bit, End, Ion, JuncId, Mode, NoMemory, Qubit, Res, SegEnd, SegId, TrapId};
+pub use numbers::{number_text, read_number};
 pub use times::Times;
