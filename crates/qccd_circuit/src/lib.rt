@@ -2,11 +2,13 @@
 #![tactic(auto)]
 
 mod circuits;
+mod fitting;
 mod items;
 mod kinds;
 mod texts;
 
 pub use circuits::Circuit;
+pub use fitting::fits;
 pub use items::Item;
 pub use kinds::{Cond, ItemKind};
 pub use texts::{Angle, AngleList, Name};
