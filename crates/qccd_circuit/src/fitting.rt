@@ -10,7 +10,9 @@ use qccd_base::{BitList, Qubit, QubitList};
 
 // The longest name and angle in bytes, and the most angles of an item.
 const NAME_BYTES: usize = 64;
+
 const ANGLE_BYTES: usize = 1024;
+
 const ANGLES: usize = 16;
 
 // One more than the last number of a bit.
@@ -115,7 +117,7 @@ fn is_cond(cond: &Option<Cond>) -> bool
 }
 
 // Whether the qubit stands in the list.
-fn has_qubit(qubits: &[Qubit], qubit: Qubit) -> bool
+pub(crate) fn has_qubit(qubits: &[Qubit], qubit: Qubit) -> bool
     ensures { result ≡ has_qubit qubits.now qubit }
 {
     qubits.iter().any(|other| other.0 == qubit.0)

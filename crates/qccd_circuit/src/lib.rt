@@ -5,10 +5,12 @@ mod circuits;
 mod fitting;
 mod items;
 mod kinds;
+mod sharing;
 mod texts;
 
 pub use circuits::Circuit;
 pub use fitting::fits;
 pub use items::Item;
 pub use kinds::{Cond, ItemKind};
+pub use sharing::shares;
 pub use texts::{Angle, AngleList, Name};
