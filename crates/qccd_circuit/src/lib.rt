@@ -7,6 +7,7 @@ mod items;
 mod kinds;
 mod sharing;
 mod texts;
+pub mod worked;
 
 pub use circuits::Circuit;
 pub use fitting::fits;
