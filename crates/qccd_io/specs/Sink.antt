@@ -1,5 +1,6 @@
--- What a write does to the bytes that a sink has taken, and to its count of faults.
-use Rattle.std.specs.Prelude.{◌≡◌, ℕ, ◌-◌, ◌^◌, ◌<◌, ◌≤◌, List, ◌++◌, length, take, Option, option_map}
+-- What a write does to the bytes that a sink has taken, to its count of faults and to what it keeps.
+use Rattle.std.specs.Prelude.{◌≡◌, ℕ, ◌-◌, ◌^◌, ◌<◌, ◌≤◌, List, [], ◌++◌, length, take, Option, option_map}
+use Rattle.std.specs.Borrow.{GName}
 
 -- the bytes taken so far, and then more; nothing is told where nothing was
 abbrev pub appended : Option (List ℕ) → List ℕ → Option (List ℕ)
@@ -16,3 +17,16 @@ TookFirst old new piece n = (n ≤ length piece) × (0 < length piece → 0 < n)
 -- some first bytes of the text were taken, maybe none and maybe all
 abbrev pub TookPrefix : Option (List ℕ) → Option (List ℕ) → List ℕ → Type 0
 TookPrefix old new text = (n : ℕ) × (n ≤ length text) × (new ≡ appended old (take n text))
+
+-- the references that a sink keeps, by name, and how many bytes the one behind the first of them has taken
+pub record Behind : Type 0 where
+  pub names : List GName
+  pub handed : ℕ
+
+-- of a sink that keeps no reference
+abbrev pub nothing_behind : Behind
+nothing_behind = record { names = []; handed = 0 }
+
+-- a sink keeps the same references, and what it handed on through them stays there
+abbrev pub Further : Behind → Behind → Type 0
+Further old new = (new.names ≡ old.names) × (old.handed ≤ new.handed)

@@ -5,4 +5,4 @@ mod failed;
 mod sink;
 
 pub use failed::Failed;
-pub use sink::Sink;
+pub use sink::{Sink, send};
