@@ -1,10 +1,15 @@
 -- What a write does to the bytes that a sink has taken, to its count of faults and to what it keeps.
-use Rattle.std.specs.Prelude.{◌≡◌, ℕ, ◌-◌, ◌^◌, ◌<◌, ◌≤◌, List, [], ◌++◌, length, take, Option, option_map}
+use Rattle.std.specs.Prelude.{◌≡◌, ℕ, ◌-◌, ◌^◌, ◌<◌, ◌≤◌, List, [], ◌++◌, length, take, Option, None, Some, option_map}
 use Rattle.std.specs.Borrow.{GName}
 
 -- the bytes taken so far, and then more; nothing is told where nothing was
 abbrev pub appended : Option (List ℕ) → List ℕ → Option (List ℕ)
 appended taken more = option_map (λ bytes. bytes ++ more) taken
+
+-- how many bytes were taken, where that is told
+abbrev pub known_length : Option (List ℕ) → ℕ
+known_length None = 0
+known_length (Some bytes) = length bytes
 
 -- a count of faults rose, unless it stood at the end of its range, where it stays
 abbrev pub Rose : ℕ → ℕ → Type 0
