@@ -20,8 +20,10 @@ abbrev pub TookFirst : Option (List ℕ) → Option (List ℕ) → List ℕ → 
 TookFirst old new piece n = (n ≤ length piece) × (0 < length piece → 0 < n) × (new ≡ appended old (take n piece))
 
 -- some first bytes of the text were taken, maybe none and maybe all
-abbrev pub TookPrefix : Option (List ℕ) → Option (List ℕ) → List ℕ → Type 0
-TookPrefix old new text = (n : ℕ) × (n ≤ length text) × (new ≡ appended old (take n text))
+pub record TookPrefix (old new : Option (List ℕ)) (text : List ℕ) : Type 0 where
+  pub count : ℕ
+  pub within : count ≤ length text
+  pub bytes : new ≡ appended old (take count text)
 
 -- the references that a sink keeps, by name, and how many bytes the one behind the first of them has taken
 pub record Behind : Type 0 where

@@ -101,8 +101,8 @@ impl<'a, S: Sink> Sink for Buffered<'a, S> {
     ghost taken = { λ b. appended (S.taken b.sink.now) b.buffer.now };
 
     ghost behind = { λ b. record {
-        names = b.sink.ghost_name ∷ (S.behind b.sink.now).names;
-        handed = known_length (S.taken b.sink.now);
+      names = b.sink.ghost_name ∷ (S.behind b.sink.now).names;
+      handed = known_length (S.taken b.sink.now);
     } };
 
     fn write(&mut self, piece: &[u8]) -> Result<usize, Failed> {
@@ -110,7 +110,7 @@ impl<'a, S: Sink> Sink for Buffered<'a, S> {
         if gathered > 0 || piece.is_empty() {
             return Ok(gathered);
         }
-        self.hand_on()?;
+        hand_on(self.sink, self.buffer)?;
         Ok(self.buffer.gather(piece))
     }
 }
@@ -126,22 +126,35 @@ impl<'a, S: Sink> Buffered<'a, S> {
         Buffered { sink, buffer }
     }
 
-    /// Hands on what waits. Where it fails, what was not handed on waits still.
-    fn hand_on(&mut self) -> Result<(), Failed>
-        ensures taken { appended (S.taken self.new.sink.now) self.new.buffer.now
-            ≡ appended (S.taken self.old.sink.now) self.old.buffer.now }
-        ensures ok { OnOk result (self.new.buffer.now ≡ []) }
-        ensures err { OnErr result (Rose (S.faults self.old.sink.now) (S.faults self.new.sink.now)) }
-        ensures count { S.faults self.old.sink.now ≤ S.faults self.new.sink.now }
-        ensures handed { known_length (S.taken self.old.sink.now)
-            ≤ known_length (S.taken self.new.sink.now) }
-        ensures further { Further (S.behind self.old.sink.now) (S.behind self.new.sink.now) }
-        ensures same_reference { self.new.sink.ghost_name ≡ self.old.sink.ghost_name }
+    /// Hands on what waits: the other sink then took all that was written since `of`. Where it
+    /// fails, that sink took some first bytes of what waited, and its count of faults rose.
+    pub fn finish(self) -> Result<(), Failed>
+        ensures ok { OnOk result (S.taken self.exit.0.now
+            ≡ appended (S.taken self.entry.sink.now) self.entry.buffer.now) }
+        ensures err { OnErr result (TookPrefix (S.taken self.entry.sink.now)
+            (S.taken self.exit.0.now) self.entry.buffer.now
+            × Rose (S.faults self.entry.sink.now) (S.faults self.exit.0.now)) }
+        ensures count { S.faults self.entry.sink.now ≤ S.faults self.exit.0.now }
+        ensures further { Further (S.behind self.entry.sink.now) (S.behind self.exit.0.now) }
     {
-        while !self.buffer.waiting().is_empty() {
-            let count = self.sink.write(self.buffer.waiting())?;
-            self.buffer.let_go(count);
-        }
-        Ok(())
+        let Buffered { sink, buffer } = self;
+        hand_on(sink, buffer)
     }
+}
+
+/// Hands on what waits. Where it fails, what was not handed on waits still.
+fn hand_on<S: Sink>(sink: &mut S, buffer: &mut Buffer) -> Result<(), Failed>
+    ensures taken { appended (S.taken sink.new) buffer.new
+        ≡ appended (S.taken sink.old) buffer.old }
+    ensures ok { OnOk result (buffer.new ≡ []) }
+    ensures err { OnErr result (Rose (S.faults sink.old) (S.faults sink.new)) }
+    ensures count { S.faults sink.old ≤ S.faults sink.new }
+    ensures handed { known_length (S.taken sink.old) ≤ known_length (S.taken sink.new) }
+    ensures further { Further (S.behind sink.old) (S.behind sink.new) }
+{
+    while !buffer.waiting().is_empty() {
+        let count = sink.write(buffer.waiting())?;
+        buffer.let_go(count);
+    }
+    Ok(())
 }

@@ -1,4 +1,4 @@
-use Rattle.std.proofs.Common.{length, ◌-◌, ◌≡◌, ℕ, ◌≤◌, take}
+use Rattle.std.proofs.Common.{length, ◌-◌, ◌≡◌, ◌≤◌, take}
 use Rattle.qccd_io.specs.Sink.{appended, Further}
 use Rattle.qccd_io.proofs.sink.send.Given as goal
 
