@@ -1,4 +1,4 @@
--- What a write does to the bytes that a sink has taken, to its count of faults and to what it keeps.
+-- What a write does to the bytes that a sink has taken, and to the references that it keeps.
 use Rattle.std.specs.Prelude.{◌≡◌, ℕ, ◌-◌, ◌^◌, ◌<◌, ◌≤◌, List, [], ◌++◌, length, take, Option, None, Some, option_map}
 use Rattle.std.specs.Borrow.{GName}
 
@@ -10,10 +10,6 @@ appended taken more = option_map (λ bytes. bytes ++ more) taken
 abbrev pub known_length : Option (List ℕ) → ℕ
 known_length None = 0
 known_length (Some bytes) = length bytes
-
--- a count of faults rose, unless it stood at the end of its range, where it stays
-abbrev pub Rose : ℕ → ℕ → Type 0
-Rose old new = old < 2 ^ 64 - 1 → old < new
 
 -- a write took the first n bytes of the piece, and one at least of a piece that has any
 abbrev pub TookFirst : Option (List ℕ) → Option (List ℕ) → List ℕ → ℕ → Type 0

@@ -1,5 +1,6 @@
 ghost use Rattle.std.specs.Prelude.{◌≡◌, ℕ, ◌<◌, ◌≤◌, ◌++◌, ◌∷◌, List, [], length, take, drop, Option, IfOk, OnOk, OnErr};
-ghost use Rattle.qccd_io.specs.Sink.{appended, known_length, Rose, TookFirst, TookPrefix, Behind, Further};
+ghost use Rattle.qccd_io.specs.Faults.{Rose};
+ghost use Rattle.qccd_io.specs.Sink.{appended, known_length, TookPrefix, Further};
 
 use crate::failed::Failed;
 use crate::sink::Sink;

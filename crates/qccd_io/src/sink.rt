@@ -1,5 +1,6 @@
 ghost use Rattle.std.specs.Prelude.{◌≡◌, ℕ, ◌≤◌, List, Option, IfOk, OnOk, OnErr};
-ghost use Rattle.qccd_io.specs.Sink.{appended, Rose, TookFirst, TookPrefix, Behind, nothing_behind, Further};
+ghost use Rattle.qccd_io.specs.Faults.{Rose};
+ghost use Rattle.qccd_io.specs.Sink.{appended, TookFirst, TookPrefix, Behind, nothing_behind, Further};
 
 use crate::failed::Failed;
 
