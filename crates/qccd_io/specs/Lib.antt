@@ -1,3 +1,4 @@
 pub mod Faults
+pub mod Fetch
 pub mod Shelf
 pub mod Source

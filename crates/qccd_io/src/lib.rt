@@ -2,9 +2,11 @@
 #![tactic(auto)]
 
 mod failed;
+mod fetch;
 mod shelf;
 mod source;
 
 pub use failed::Failed;
+pub use fetch::{FetchFault, fetch_all};
 pub use shelf::Shelf;
 pub use source::Source;

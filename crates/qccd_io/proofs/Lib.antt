@@ -1,0 +1,3 @@
+pub mod Faulting
+pub mod Lending
+pub mod Telling
