@@ -1,1 +1,4 @@
 pub mod Appended
+pub mod Faulting
+pub mod Lending
+pub mod Telling
