@@ -1,6 +1,7 @@
 -- What the report of a circuit of gates in one trap comes down to: one running clock, and ions that stay.
 use Rattle.std.specs.Prelude.{ℕ, ◌+◌, ◌==◌, List, [], ◌∷◌, ◌++◌, length, flat_map, count_by, codes, decimal}
 use Rattle.std.specs.List.{range_with_len}
+use Rattle.qccd_base.specs.declared.names.Qubit.{Qubit}
 use Rattle.qccd_circuit.specs.Item.{ItemData}
 use Rattle.qccd_circuit.specs.Circuit.{CircuitData}
 use Rattle.qccd_machine.specs.Machine.{MachineData}
@@ -55,3 +56,14 @@ one_trap_text c m =
     ++ line (codes "end T0 heat 0" ++ end_words c.qubits)
     ++ gate_counts c.items
     ++ line (labelled (codes "finish ") (end_time m 0 c.items))
+
+-- a qubit at its position
+abbrev pub operand_word : Qubit → List ℕ
+operand_word q = codes " q" ++ decimal q.0 ++ codes "@" ++ decimal q.0
+
+-- a gate without angles, after its times
+abbrev pub gate_words : ℕ → ItemData → List ℕ
+gate_words k item = codes " item " ++ decimal k ++ codes " " ++ item.name ++ codes " T0" ++ flat_map operand_word item.qubits
+
+abbrev pub gate_line : ℕ → ℕ → ℕ → ItemData → List ℕ
+gate_line k start finish item = decimal k ++ (codes " " ++ decimal start) ++ (codes " " ++ decimal finish) ++ gate_words k item ++ codes "\n"

@@ -1,3 +1,4 @@
+pub mod Exits
 pub mod Appended
 pub mod Faulting
 pub mod Lending

@@ -13,6 +13,7 @@ mod sink;
 mod sink_tests;
 mod source;
 mod std_sink;
+mod texts;
 
 pub use buffered::{Buffer, Buffered};
 pub use failed::Failed;
@@ -23,3 +24,4 @@ pub use shelf::Shelf;
 pub use sink::{Sink, send};
 pub use source::Source;
 pub use std_sink::StdSink;
+pub use texts::{send_all, send_labelled, send_number};
