@@ -6,3 +6,4 @@ pub mod Implements
 pub mod Clock
 pub mod Text
 pub mod Listed
+pub mod Pieces

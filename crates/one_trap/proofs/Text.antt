@@ -47,14 +47,14 @@ entry i = (i, stand i)
 chain-row : (n bits : ℕ) → chain_of (still n bits) 0 ≡ map entry (range_with_len 0 n)
 chain-row n bits = rw (ions_in-row n bits) (filter_map-range (λ k. find (λ (e : ℕ × Stand). is_at 0 k e.1.spot) (numbered_ions (still n bits))) entry 0 n (λ i low high. entry_from 0 n i i (omega arith) (omega arith)))
 
-decimal_zero : decimal 0 ≡ codes "0"
+pub decimal_zero : decimal 0 ≡ codes "0"
 unfolding digits
 decimal_zero = refl
 
 end_line-row : (n bits : ℕ) → end_line (still n bits) 0 ≡ line (codes "end T0 heat 0" ++ end_words n)
 end_line-row n bits = rw (chain-row n bits, flat_map-map (λ (e : ℕ × Stand). next_word (entry_text e)) entry (range_with_len 0 n), decimal_zero) refl
 
-append_nil : (xs : List ℕ) → xs ++ [] ≡ xs
+pub append_nil : (xs : List ℕ) → xs ++ [] ≡ xs
 append_nil [] = refl
 append_nil (x ∷ xs) = ap (λ (rest : List ℕ). x ∷ rest) (append_nil xs)
 

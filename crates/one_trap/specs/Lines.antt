@@ -1,6 +1,6 @@
 -- What the report of a circuit of gates in one trap comes down to: one running clock, and ions that stay.
 use Rattle.std.specs.Prelude.{ℕ, ◌+◌, ◌==◌, List, [], ◌∷◌, ◌++◌, length, flat_map, count_by, codes, decimal}
-use Rattle.std.specs.List.{range_with_len}
+use Rattle.std.specs.List.{range_with_len, concat}
 use Rattle.qccd_base.specs.declared.names.Qubit.{Qubit}
 use Rattle.qccd_circuit.specs.Item.{ItemData}
 use Rattle.qccd_circuit.specs.Circuit.{CircuitData}
@@ -59,11 +59,41 @@ one_trap_text c m =
 
 -- a qubit at its position
 abbrev pub operand_word : Qubit → List ℕ
-operand_word q = codes " q" ++ decimal q.0 ++ codes "@" ++ decimal q.0
+operand_word q = concat (codes " q" ∷ decimal q.0 ∷ codes "@" ∷ decimal q.0 ∷ [])
 
--- a gate without angles, after its times
-abbrev pub gate_words : ℕ → ItemData → List ℕ
-gate_words k item = codes " item " ++ decimal k ++ codes " " ++ item.name ++ codes " T0" ++ flat_map operand_word item.qubits
+-- the number, the times and the name of a gate
+abbrev pub gate_head : ℕ → ℕ → ℕ → ItemData → List ℕ
+gate_head k start finish item =
+    concat (decimal k ∷ codes " " ∷ decimal start ∷ codes " " ∷ decimal finish ∷ codes " item " ∷ decimal k ∷ codes " " ∷ item.name ∷ codes " T0" ∷ [])
 
 abbrev pub gate_line : ℕ → ℕ → ℕ → ItemData → List ℕ
-gate_line k start finish item = decimal k ++ (codes " " ++ decimal start) ++ (codes " " ++ decimal finish) ++ gate_words k item ++ codes "\n"
+gate_line k start finish item = gate_head k start finish item ++ flat_map operand_word item.qubits ++ codes "\n"
+
+-- the lines of gates, from number k and this time on
+abbrev pub gate_lines : MachineData → ℕ → ℕ → List ItemData → List ℕ
+gate_lines m k start [] = []
+gate_lines m k start (item ∷ items) = gate_line k start (start + item_time m item) item ++ gate_lines m (k + 1) (start + item_time m item) items
+
+abbrev pub sizes : CircuitData → MachineData → List ℕ
+sizes c m = concat (codes "QCCD report 1\nqubits " ∷ decimal c.qubits ∷ codes " bits " ∷ decimal c.bits ∷ codes " traps " ∷ decimal (length m.capacities)
+    ∷ codes " segments " ∷ decimal (length m.segments) ∷ codes " junctions " ∷ decimal m.junctions ∷ codes "\n" ∷ [])
+
+abbrev pub ops_line : ℕ → List ℕ
+ops_line n = concat (codes "ops " ∷ decimal n ∷ codes "\n" ∷ [])
+
+abbrev pub opening_text : CircuitData → MachineData → List ℕ
+opening_text c m = sizes c m ++ (codes "start T0" ++ start_words c.qubits ++ codes "\n") ++ ops_line (length c.items)
+
+abbrev pub pair_word : ℕ → List ℕ
+pair_word i = concat (codes " " ∷ decimal i ∷ codes ":q" ∷ decimal i ∷ [])
+
+abbrev pub totals : ℕ → ℕ → ℕ → List ℕ
+totals ones twos finish = concat (codes "\ncounts split 0 merge 0 move 0 enter 0 leave 0 rot 0 gswap 0 gate1 " ∷ decimal ones ∷ codes " gate2 " ∷ decimal twos
+    ∷ codes " measure 0 reset 0 fence 0\nfinish " ∷ decimal finish ∷ codes "\n" ∷ [])
+
+abbrev pub closing_text : CircuitData → MachineData → List ℕ
+closing_text c m = codes "end T0 heat 0" ++ flat_map pair_word (range_with_len 0 c.qubits) ++ totals (gates_in 7 c.items) (gates_in 8 c.items) (end_time m 0 c.items)
+
+-- the report in the pieces in which it is sent
+abbrev pub sent_text : CircuitData → MachineData → List ℕ
+sent_text c m = opening_text c m ++ gate_lines m 0 0 c.items ++ closing_text c m
