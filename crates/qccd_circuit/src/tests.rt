@@ -5,7 +5,7 @@ use qccd_base::{Bit, BitList, NoMemory, Qubit, QubitList};
 use std::alloc::Global;
 use std::test::Fail;
 
-/// The item with one angle, if there is an item of these parts.
+/// The item with no angle and no condition, where it fits.
 fn made(
     alloc: Global,
     kind: ItemKind,
@@ -30,5 +30,31 @@ fn what_fits(rt: HostRuntime) -> Result<(), Fail> {
     assert!(rt; h.is_some());
     let cx = made(alloc, ItemKind::Gate2, b"cx", &[Qubit(4), Qubit(4)], &[])?;
     assert!(rt; cx.is_none());
+    Ok(())
+}
+
+/// Puts a copy of the item into the circuit, where it is within its counts and there is room.
+fn add_copy(circuit: &mut Circuit, item: &Item) -> Result<bool, NoMemory> {
+    let copy = item.copy()?;
+    let whole = copy.is_within(circuit.qubits(), circuit.bits());
+    if !whole || circuit.items().len() >= 65536 {
+        return Ok(false);
+    }
+    circuit.add(copy)?;
+    Ok(true)
+}
+
+#[test]
+fn a_circuit_of_copies(rt: HostRuntime) -> Result<(), Fail> {
+    let alloc = rt.alloc();
+    let mut circuit = Circuit::begin(alloc, 2, 1);
+    if let Some(item) = made(alloc, ItemKind::Measure, b"measure", &[Qubit(1)], &[Bit(0)])? {
+        assert!(rt; add_copy(&mut circuit, &item)?);
+        assert!(rt; shares(&item, &item));
+    }
+    if let Some(item) = made(alloc, ItemKind::Measure, b"measure", &[Qubit(1)], &[Bit(1)])? {
+        assert!(rt; !add_copy(&mut circuit, &item)?);
+    }
+    assert_eq!(rt; circuit.items().len(), 1);
     Ok(())
 }
