@@ -44,6 +44,9 @@ fn add_copy(circuit: &mut Circuit, item: &Item) -> Result<bool, NoMemory> {
     Ok(true)
 }
 
+/// Takes what threads may share and hand over.
+fn crosses_threads<T: Send + Sync>(_shared: &T) {}
+
 #[test]
 fn a_circuit_of_copies(rt: HostRuntime) -> Result<(), Fail> {
     let alloc = rt.alloc();
@@ -56,5 +59,6 @@ fn a_circuit_of_copies(rt: HostRuntime) -> Result<(), Fail> {
         assert!(rt; !add_copy(&mut circuit, &item)?);
     }
     assert_eq!(rt; circuit.items().len(), 1);
+    crosses_threads(&circuit);
     Ok(())
 }
