@@ -14,7 +14,7 @@ lines-append times k start (x ∷ xs) ys =
     let moved : (k + 1) + length xs ≡ k + suc (length xs) = omega arith in
     let finish = start + item_time times x in
     ap (λ (text : List ℕ). gate_line k start finish x ++ text)
-        (lines-append times (k + 1) finish xs ys ∙ ap (λ (n : ℕ). gate_lines times (k + 1) finish xs ++ gate_lines times n (end_time times finish xs) ys) moved)
+    (lines-append times (k + 1) finish xs ys ∙ ap (λ (n : ℕ). gate_lines times (k + 1) finish xs ++ gate_lines times n (end_time times finish xs) ys) moved)
     ∙ sym (append_assoc (gate_line k start finish x) (gate_lines times (k + 1) finish xs) (gate_lines times (k + suc (length xs)) (end_time times finish xs) ys))
 
 end-append : (times : Times) (start : ℕ) (xs ys : List ItemData) → end_time times start (xs ++ ys) ≡ end_time times (end_time times start xs) ys
@@ -49,9 +49,11 @@ lines-cut : (times : Times) (items : List ItemData) (i : ℕ) (d : ItemData) →
     ≡ (gate_lines times 0 0 (take i items) ++ gate_line i (end_time times 0 (take i items)) (end_time times 0 (take i items) + item_time times (get_or items i d)) (get_or items i d)) ++ rest)
 lines-cut times items i d within =
     let upto = take (i + 1) items in
-    let rest = gate_lines times (0 + length upto) (end_time times 0 upto) (drop (i + 1) items) in
-    (rest, ap (gate_lines times 0 0) (sym (take-append-drop (i + 1) items)) ∙ lines-append times 0 0 upto (drop (i + 1) items)
-        ∙ ap (λ (text : List ℕ). text ++ rest) (lines-more times items i d within))
+    let rest = gate_lines times (0 + length upto) (end_time times 0 upto) (drop (i + 1) items) in (
+      rest,
+      ap (gate_lines times 0 0) (sym (take-append-drop (i + 1) items)) ∙ lines-append times 0 0 upto (drop (i + 1) items)
+          ∙ ap (λ (text : List ℕ). text ++ rest) (lines-more times items i d within),
+    )
 
 -- the gate at place i, with its number and times
 same_line : (times : Times) (items : List ItemData) (i start finish : ℕ) (d : ItemData) → d ≡ get_or items i d → start ≡ end_time times 0 (take i items)

@@ -10,3 +10,4 @@ pub mod Pieces
 pub mod Three
 pub mod GateLines
 pub mod ItemTime
+pub mod RangeText

@@ -15,8 +15,8 @@ overflow_add-finish g c =
     let item = c.index-items-number.result in
     let is : c.duration.result ≡ item_time c.args.times.now item = rw c.work_of.ensures at c.duration.ensures in
     let few : item_time c.args.times.now item ≤ 93000000 = item_time-le c.args.times.now item c.requires.short
-        (rw (sym c.index-items-number.is) at (c.requires.gates c.loop-number.number item c.loop-number-test.true))
-        (rw (sym c.index-items-number.is) at (c.requires.within c.loop-number.number item c.loop-number-test.true)) in
+    (rw (sym c.index-items-number.is) at (c.requires.gates c.loop-number.number item c.loop-number-test.true))
+    (rw (sym c.index-items-number.is) at (c.requires.within c.loop-number.number item c.loop-number-test.true)) in
     omega (arith, c.loop-number.invariant.early, c.loop-number-test.true, c.requires.few)
 
 pub returns-in_err-send_gate-clause-err : goal.returns-in_err-send_gate-clause-err
@@ -30,7 +30,7 @@ returns-in_err-send_gate-clause-err g c =
     let split = lines-split times items i start (start + c.duration.result) item c.loop-number-test.true c.index-items-number.is c.loop-number.invariant.clock (ap (λ (n : ℕ). start + n) is) in
     let line = gate_line i start (start + c.duration.result) item in
     let part = failed-second _ _ _ _ _ _ (gate_lines times 0 0 (take i items)) line
-        c.loop-number.invariant.taken c.loop-number.invariant.count c.send_gate.ensures.count c.in_err-send_gate.ensures.err in
+    c.loop-number.invariant.taken c.loop-number.invariant.count c.send_gate.ensures.count c.in_err-send_gate.ensures.err in
     let P : List ℕ → Type 0 = Failed (g.S.Sink.taken c.args.sink.now) (g.S.Sink.taken c.send_gate.new.sink) (g.S.Sink.faults c.args.sink.now) (g.S.Sink.faults c.send_gate.new.sink) in
     on_err c.from_residual.result (subst P split.1 (failed-first _ _ _ _ (gate_lines times 0 0 (take i items) ++ line) split.0 part))
 
@@ -44,8 +44,8 @@ loop-number-preserved g c =
     let old = c.loop-number.invariant in
     let is : c.duration.result ≡ item_time times item = rw c.work_of.ensures at c.duration.ensures in
     let few : item_time times item ≤ 93000000 = item_time-le times item c.requires.short
-        (rw (sym c.index-items-number.is) at (c.requires.gates i item c.loop-number-test.true))
-        (rw (sym c.index-items-number.is) at (c.requires.within i item c.loop-number-test.true)) in
+    (rw (sym c.index-items-number.is) at (c.requires.gates i item c.loop-number-test.true))
+    (rw (sym c.index-items-number.is) at (c.requires.within i item c.loop-number-test.true)) in
     let ends : start + c.duration.result ≡ start + item_time times item = ap (λ (n : ℕ). start + n) is in
     let line = gate_line i start (start + c.duration.result) item in
     record {
