@@ -1,3 +1,6 @@
 pub mod Faulting
+pub mod Files
 pub mod Lending
+pub mod Pieces
+pub mod Taking
 pub mod Telling

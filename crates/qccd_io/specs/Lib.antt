@@ -1,4 +1,5 @@
 pub mod Faults
 pub mod Fetch
+pub mod Memory
 pub mod Shelf
 pub mod Source

@@ -3,10 +3,13 @@
 
 mod failed;
 mod fetch;
+mod mem_shelf;
+mod schedule;
 mod shelf;
 mod source;
 
 pub use failed::Failed;
 pub use fetch::{FetchFault, fetch_all};
+pub use mem_shelf::{MemShelf, MemSource};
 pub use shelf::Shelf;
 pub use source::Source;
