@@ -3,6 +3,7 @@
 
 mod failed;
 mod fetch;
+mod file_shelf;
 mod mem_shelf;
 mod schedule;
 mod shelf;
@@ -10,6 +11,7 @@ mod source;
 
 pub use failed::Failed;
 pub use fetch::{FetchFault, fetch_all};
+pub use file_shelf::{FileShelf, FileSource};
 pub use mem_shelf::{MemShelf, MemSource};
 pub use shelf::Shelf;
 pub use source::Source;
