@@ -8,6 +8,8 @@ mod mem_shelf;
 mod schedule;
 mod shelf;
 mod source;
+#[cfg(test)]
+mod tests;
 
 pub use failed::Failed;
 pub use fetch::{FetchFault, fetch_all};
