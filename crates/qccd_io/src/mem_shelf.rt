@@ -1,5 +1,8 @@
-ghost use Rattle.std.specs.Prelude.{◌≡◌, ◌<◌, None, Some, IfSome, IfNone, OnSome, bytes_eq, map, position, string_bytes, vec_len, vec_capacity};
-ghost use Rattle.qccd_io.specs.Memory.{entry_of, file_named, TakesNamed};
+ghost use Rattle.std.specs.Prelude.{◌≡◌, ◌+◌, ◌-◌, ◌^◌, ◌<◌, ◌≤◌, ◌⊎◌, ◌↔◌, None, Some, IsTrue, IsErr, IfOk, OnErr, IfSome, IfNone, OnSome, MatchResult, bytes_eq, length, map, min, position, string_bytes, take, vec_len, vec_capacity};
+ghost use Rattle.qccd_io.specs.Faults.{Rose};
+ghost use Rattle.qccd_io.specs.Memory.{entry_of, file_named, holding_of, fails, after_call, faults_after, TakesNamed};
+ghost use Rattle.qccd_io.specs.Shelf.{NoneIsOut, Lacks, HoldsTheSame, Lends, CanGiveBack, PutsBack};
+ghost use Rattle.qccd_io.specs.Source.{Reads, AtEnd};
 
 use crate::failed::Failed;
 use crate::schedule::Schedule;
@@ -38,7 +41,20 @@ impl Source for MemSource {
 
     ghost told = { λ s. Some s.telling };
 
-    fn read(&mut self, buf: &mut [u8]) -> Result<usize, Failed> {
+    fn read(&mut self, buf: &mut [u8]) -> Result<usize, Failed>
+        ensures counts { self.old.faults ≤ self.new.faults }
+        ensures fits { IfOk result (λ n. n ≤ length buf.old) }
+        ensures reads { IfOk result (λ n. Reads (Some self.old.telling) (take n buf.new) (Some self.new.telling)) }
+        ensures ends { IfOk result (λ n. n ≡ 0 → 0 < length buf.old → AtEnd (Some self.new.telling)) }
+        ensures failed { OnErr result (Rose self.old.faults self.new.faults) }
+        ensures keeps { OnErr result (Some self.new.telling ≡ Some self.old.telling) }
+
+        // It fails as planned, and copies as much as there is and as fits.
+        ensures planned { IsErr result ↔ IsTrue (fails self.old.plan) }
+        ensures counted { self.new.faults ≡ faults_after self.old.plan self.old.faults }
+        ensures goes_on { self.new.plan ≡ after_call self.old.plan }
+        ensures most { IfOk result (λ n. n ≡ min (length self.old.telling.left) (length buf.old)) }
+    {
         if self.schedule.next_fails() {
             self.faults = self.faults.saturating_add(1);
             return Err(Failed);
@@ -106,7 +122,19 @@ impl Shelf for MemShelf {
 
     ghost told = { λ s. Some (holding_of s) };
 
-    fn lend(&mut self, name: &str) -> Result<MemSource, Failed> {
+    fn lend(&mut self, name: &str) -> Result<MemSource, Failed>
+        requires { NoneIsOut (Some (holding_of self.old)) }
+        ensures counts { self.old.faults ≤ self.new.faults }
+        ensures fresh { IfOk result (λ s. s.faults ≡ 0) }
+        ensures lends { IfOk result (λ s. Lends (Some (holding_of self.old)) name.now (Some s.telling) (Some (holding_of self.new))) }
+        ensures failed { OnErr result (Rose self.old.faults self.new.faults ⊎ Lacks (Some (holding_of self.old)) name.now) }
+        ensures keeps { OnErr result (HoldsTheSame (Some (holding_of self.old)) (Some (holding_of self.new))) }
+
+        // It fails as planned, and where the name is not held.
+        ensures planned { IfSome self.old.plan (λ p. IsErr result ↔ (IsTrue (fails p) ⊎ (file_named self.old.files name.now ≡ None))) }
+        ensures counted { IfSome self.old.plan (λ p. self.new.faults ≡ faults_after p self.old.faults) }
+        ensures goes_on { IfSome self.old.plan (λ p. MatchResult result (λ s. s.plan ≡ after_call p) (λ _. self.new.plan ≡ Some (after_call p))) }
+    {
         let mut schedule = match self.schedule.take() {
             Some(schedule) => schedule,
             None => unreachable!(),
@@ -131,7 +159,16 @@ impl Shelf for MemShelf {
         }
     }
 
-    fn give_back(&mut self, src: MemSource) {
+    fn give_back(&mut self, src: MemSource)
+        requires { CanGiveBack (Some (holding_of self.old)) (Some src.telling) }
+        ensures counts { self.old.faults ≤ self.new.faults }
+        ensures rises { 0 < src.faults → Rose self.old.faults self.new.faults }
+        ensures puts_back { PutsBack (Some (holding_of self.old)) (Some src.telling) (Some (holding_of self.new)) }
+
+        // The plan goes on where the source's reads left it.
+        ensures counted { self.new.faults ≡ min (self.old.faults + src.faults) (2 ^ 64 - 1) }
+        ensures goes_on { self.new.plan ≡ Some src.plan }
+    {
         let MemSource {
             name,
             bytes,

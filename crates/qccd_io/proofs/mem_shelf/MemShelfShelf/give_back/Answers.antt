@@ -1,4 +1,4 @@
-use Rattle.std.proofs.Common.{◌≡◌, ◌∙◌, ap, refl, sym, true, false, map, None, Some}
+use Rattle.std.proofs.Common.{◌≡◌, ◌∙◌, ap, refl, map, None, Some}
 use Rattle.std.specs.Prelude.{string_bytes}
 use Rattle.qccd_io.specs.Memory.{entry_of, file_named}
 use Rattle.qccd_io.proofs.Taking.{file_named-put_back}

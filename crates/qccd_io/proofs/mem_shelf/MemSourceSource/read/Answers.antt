@@ -1,6 +1,5 @@
 use Rattle.std.proofs.Common.{◌≡◌, ◌+◌, ◌-◌, ◌≤◌, length, take, drop, sym, ◌∙◌, ap, arith}
 use Rattle.std.proofs.lemmas.List.{length-take}
-use Rattle.std.proofs.Common.{length-drop}
 use Rattle.qccd_io.proofs.Pieces.{drop-from_copied}
 use Rattle.qccd_io.proofs.mem_shelf.MemSourceSource.read.Goals as goal
 
