@@ -1,6 +1,6 @@
 ghost use Rattle.std.specs.Prelude.{◌≡◌, ◌+◌, ◌-◌, ◌^◌, ◌<◌, ◌≤◌, ◌⊎◌, ◌↔◌, None, Some, IsTrue, IsErr, IfOk, OnErr, IfSome, IfNone, OnSome, MatchResult, bytes_eq, length, map, min, position, string_bytes, take, vec_len, vec_capacity};
 ghost use Rattle.qccd_io.specs.Faults.{Rose};
-ghost use Rattle.qccd_io.specs.Memory.{entry_of, file_named, holding_of, fails, after_call, faults_after, TakesNamed};
+ghost use Rattle.qccd_io.specs.Memory.{entry_of, file_named, holding_of, HaveDistinctNames, fails, after_call, faults_after, TakesNamed};
 ghost use Rattle.qccd_io.specs.Shelf.{NoneIsOut, Lacks, HoldsTheSame, Lends, CanGiveBack, PutsBack};
 ghost use Rattle.qccd_io.specs.Source.{Reads, AtEnd};
 
@@ -90,9 +90,6 @@ impl Model for MemShelf {
 }
 
 impl MemShelf {
-    ghost use Rattle.std.specs.Prelude.{Some};
-    ghost use Rattle.qccd_io.specs.Memory.{entry_of, HaveDistinctNames};
-
     /// A shelf of these files, no two of one name. The calls of `lend` and of its sources' `read`
     /// whose numbers `failing` lists, counted together from 0, fail; beside them only a `lend`
     /// of a name that is not held fails.
@@ -113,9 +110,6 @@ impl MemShelf {
 }
 
 impl Shelf for MemShelf {
-    ghost use Rattle.std.specs.Prelude.{Some};
-    ghost use Rattle.qccd_io.specs.Memory.{holding_of};
-
     type Src = MemSource;
 
     ghost faults = { λ s. s.faults };
