@@ -1,5 +1,9 @@
 pub mod Exits
 pub mod Appended
 pub mod Faulting
+pub mod Files
 pub mod Lending
+pub mod Pieces
+pub mod Planning
+pub mod Taking
 pub mod Telling

@@ -4,3 +4,4 @@ pub mod Memory
 pub mod Shelf
 pub mod Sink
 pub mod Source
+pub mod Stock

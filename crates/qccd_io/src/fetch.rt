@@ -107,12 +107,10 @@ fn append_piece<S: Source>(
     bytes: &mut Vec<u8>,
 ) -> Result<usize, FetchFault>
     ensures grows { IfOk result (λ n. vec_len bytes.new ≡ vec_len bytes.old + n) }
-    ensures fits { IfOk result (λ n. n ≤ length piece.old) }
     // Whatever the bytes were read from before, all of them were read from now.
     ensures reads { IfOk result (λ n. (start : Option Telling)
         → Reads start bytes.old.items (S.told source.old) → Reads start bytes.new.items (S.told source.new)) }
     ensures ends { IfOk result (λ n. n ≡ 0 → 0 < length piece.old → AtEnd (S.told source.new)) }
-    ensures same_bytes { IfOk result (λ n. n ≡ 0 → bytes.new.items ≡ bytes.old.items) }
     ensures fault { IfErr result (λ e. MatchFault e (Rose (S.faults source.old) (S.faults source.new)) (λ l. ⊥)) }
     ensures same { SameFile (S.told source.old) (S.told source.new) }
     ensures counts { S.faults source.old ≤ S.faults source.new }

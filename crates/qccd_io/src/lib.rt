@@ -5,19 +5,26 @@
 mod buffered;
 mod failed;
 mod fetch;
+mod file_shelf;
+mod mem_shelf;
 mod mem_sink;
 mod post;
+mod schedule;
 mod shelf;
 mod sink;
 #[cfg(test)]
 mod sink_tests;
 mod source;
 mod std_sink;
+#[cfg(test)]
+mod tests;
 mod texts;
 
 pub use buffered::{Buffer, Buffered};
 pub use failed::Failed;
 pub use fetch::{FetchFault, fetch_all};
+pub use file_shelf::{FileShelf, FileSource};
+pub use mem_shelf::{MemShelf, MemSource};
 pub use mem_sink::MemSink;
 pub use post::{NoPost, Post};
 pub use shelf::Shelf;

@@ -1,5 +1,4 @@
 use Rattle.std.proofs.Common.{take, length-take, arith}
-use Rattle.std.proofs.lemmas.List.{append-nil}
 use Rattle.qccd_io.proofs.Telling.{Reads-append, SameFile-refl, SameFile-from_Reads}
 use Rattle.qccd_io.proofs.fetch.append_piece.Goals as goal
 
@@ -21,9 +20,6 @@ slice_bounds-extend_from_slice-end-2 g c = omega (arith, length-take c.in-Ok.cou
 pub returns-in-Ok-extend_from_slice-clause-grows : goal.returns-in-Ok-extend_from_slice-clause-grows
 returns-in-Ok-extend_from_slice-clause-grows g c = omega (arith, c.in-Ok-extend_from_slice.ensures.len, length-take c.in-Ok.count c.read.new.buf, c.in-Ok.ensures.fits, c.read.auto.buf)
 
-pub returns-in-Ok-extend_from_slice-clause-fits : goal.returns-in-Ok-extend_from_slice-clause-fits
-returns-in-Ok-extend_from_slice-clause-fits g c = c.in-Ok.ensures.fits
-
 pub returns-in-Ok-extend_from_slice-clause-reads : goal.returns-in-Ok-extend_from_slice-clause-reads
 returns-in-Ok-extend_from_slice-clause-reads g c = λ start before.
     rw c.in-Ok-extend_from_slice.ensures.items
@@ -31,9 +27,6 @@ returns-in-Ok-extend_from_slice-clause-reads g c = λ start before.
 
 pub returns-in-Ok-extend_from_slice-clause-ends : goal.returns-in-Ok-extend_from_slice-clause-ends
 returns-in-Ok-extend_from_slice-clause-ends g c = c.in-Ok.ensures.ends
-
-pub returns-in-Ok-extend_from_slice-clause-same_bytes : goal.returns-in-Ok-extend_from_slice-clause-same_bytes
-returns-in-Ok-extend_from_slice-clause-same_bytes g c = λ none. rw (c.in-Ok-extend_from_slice.ensures.items, none) (append-nil _)
 
 pub returns-in-Ok-extend_from_slice-clause-same : goal.returns-in-Ok-extend_from_slice-clause-same
 returns-in-Ok-extend_from_slice-clause-same g c = SameFile-from_Reads _ _ _ c.in-Ok.ensures.reads
