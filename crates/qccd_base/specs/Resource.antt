@@ -1,5 +1,5 @@
 -- The order of resources: traps, segments, junctions, bits, and each by number.
-use Rattle.std.specs.Prelude.{ℕ, Bool, true, false, ◌&&◌, ◌||◌, ◌==◌, nat_lt, if◌then◌else◌, List, [], ◌∷◌}
+use Rattle.std.specs.Prelude.{ℕ, Bool, false, ◌&&◌, ◌||◌, ◌==◌, nat_lt, if◌then◌else◌, List, [], ◌∷◌}
 use Rattle.qccd_base.specs.declared.names.Res.{Res}
 use Rattle.qccd_base.specs.declared.names.Res.TheVariants.{Trap, Seg, Junc, Bit}
 

@@ -1,4 +1,4 @@
-use Rattle.std.proofs.Common.{◌≡◌, ◌≤◌, take, Bor}
+use Rattle.std.proofs.Common.{◌≡◌, ◌≤◌, take}
 use Rattle.std.specs.Prelude.{flat_map}
 use Rattle.qccd_io.specs.Sink.{appended, Further}
 use Rattle.qccd_io.proofs.texts.send_all.Given as goal
