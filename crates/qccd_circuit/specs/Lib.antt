@@ -2,3 +2,4 @@ pub mod Item
 pub mod Sharing
 pub mod Order
 pub mod Circuit
+pub mod Example

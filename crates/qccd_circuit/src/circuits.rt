@@ -1,7 +1,8 @@
-ghost use Rattle.std.specs.Prelude.{◌≡◌, ◌≤◌, []};
-ghost use Rattle.qccd_circuit.specs.Circuit.{IsCircuit};
+ghost use Rattle.std.specs.Prelude.{◌≡◌, ◌<◌, ◌≤◌, ◌++◌, ◌∷◌, [], OnErr, OnOk, length};
+ghost use Rattle.qccd_circuit.specs.Circuit.{IsCircuit, IsWithin};
 
 use crate::items::Item;
+use qccd_base::NoMemory;
 use std::alloc::Global;
 use std::marker::Model;
 
@@ -57,5 +58,18 @@ impl Circuit {
         ensures is_circuit { IsCircuit self.now }
     {
         self.items.as_slice()
+    }
+
+    /// Puts the item at the end. Where memory runs out, the circuit stays as it was.
+    pub fn add(&mut self, item: Item) -> Result<(), NoMemory>
+        requires within { IsWithin self.old.qubits self.old.bits item }
+        requires room { length self.old.items < 65536 }
+        ensures ok { OnOk result (self.new ≡ record self.old { items = self.old.items ++ item ∷ [] }) }
+        ensures err { OnErr result (self.new ≡ self.old) }
+    {
+        // The item fits, as the contract of its kind tells.
+        let _kind = item.kind();
+        self.items.push(item)?;
+        Ok(())
     }
 }

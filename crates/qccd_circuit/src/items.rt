@@ -1,9 +1,10 @@
-ghost use Rattle.std.specs.Prelude.{◌≡◌, None};
-ghost use Rattle.qccd_circuit.specs.Item.{Fits};
+ghost use Rattle.std.specs.Prelude.{◌≡◌, ◌↔◌, ◌<◌, All, IfOk, IsTrue, None};
+ghost use Rattle.qccd_circuit.specs.Circuit.{IsWithin};
+ghost use Rattle.qccd_circuit.specs.Item.{Fits, cond_bits};
 
 use crate::kinds::{Cond, ItemKind};
 use crate::texts::{AngleList, Name};
-use qccd_base::{BitList, QubitList};
+use qccd_base::{Bit, BitList, NoMemory, Qubit, QubitList};
 use std::marker::Model;
 
 /// One item of a circuit: a gate, a measurement, a reset or a barrier, that fits.
@@ -98,5 +99,61 @@ impl Item {
         ensures unconditional { self.now.cond ≡ None }
     {
         &self.cond
+    }
+
+    /// An equal item.
+    pub fn copy(&self) -> Result<Item, NoMemory>
+        ensures { IfOk result (λ item. item ≡ self.now) }
+    {
+        let alloc = self.name.allocator();
+        let name = self.name.copy()?;
+        let angles = self.angles.copy()?;
+        let qubits = Vec::from_slice(alloc, self.qubits.as_slice())?;
+        let bits = Vec::from_slice(alloc, self.bits.as_slice())?;
+        Ok(Item {
+            kind: self.kind,
+            name,
+            angles,
+            qubits: QubitList::of(qubits),
+            bits: BitList::of(bits),
+            cond: self.cond,
+        })
+    }
+
+    /// Whether each of the item's qubits, and of the bits that it writes or its condition reads, is
+    /// below its count.
+    pub fn is_within(&self, qubits: u16, bits: u16) -> bool
+        ensures { IsTrue result ↔ IsWithin qubits bits self.now }
+    {
+        qubits_below(self.qubits.as_slice(), qubits)
+            && bits_below(self.bits.as_slice(), bits)
+            && cond_below(&self.cond, bits)
+    }
+}
+
+// Whether each qubit is below the count.
+fn qubits_below(qubits: &[Qubit], count: u16) -> bool
+    ensures { IsTrue result ↔ All (λ q. q.0 < count) qubits.now }
+{
+    qubits.iter().all(|qubit| qubit.0 < count)
+}
+
+// Whether each bit is below the count.
+fn bits_below(bits: &[Bit], count: u16) -> bool
+    ensures { IsTrue result ↔ All (λ b. b.0 < count) bits.now }
+{
+    bits.iter().all(|bit| bit.0 < count)
+}
+
+// Whether each bit that the condition reads is below the count.
+fn cond_below(cond: &Option<Cond>, count: u16) -> bool
+    ensures { IsTrue result ↔ All (λ b. b.0 < count) (cond_bits cond.now) }
+{
+    match cond {
+        None => true,
+        Some(cond) => {
+            let end = u32::from(cond.first.0) + u32::from(cond.count);
+            cond.count == 0 || end <= u32::from(count)
+        }
     }
 }

@@ -2,11 +2,16 @@
 #![tactic(auto)]
 
 mod circuits;
+mod fitting;
 mod items;
 mod kinds;
+mod sharing;
 mod texts;
+pub mod worked;
 
 pub use circuits::Circuit;
+pub use fitting::fits;
 pub use items::Item;
 pub use kinds::{Cond, ItemKind};
+pub use sharing::shares;
 pub use texts::{Angle, AngleList, Name};

@@ -1,7 +1,9 @@
 //! Names and angles, which clauses see as lists of bytes.
 
-ghost use Rattle.std.specs.Prelude.{◌≡◌, ◌==◌, length};
+ghost use Rattle.std.specs.Prelude.{◌≡◌, ◌==◌, IfOk, length};
 
+use qccd_base::NoMemory;
+use std::alloc::Global;
 use std::marker::Model;
 
 /// The name of an item, as `h` or `measure`.
@@ -52,6 +54,19 @@ impl Name {
         ensures { result.items ≡ self }
     {
         self.bytes
+    }
+
+    /// An equal name.
+    pub fn copy(&self) -> Result<Name, NoMemory>
+        ensures { IfOk result (λ name. name ≡ self.now) }
+    {
+        let bytes = self.bytes.clone()?;
+        Ok(Name { bytes })
+    }
+
+    // What the name's memory comes from.
+    pub(crate) fn allocator(&self) -> Global {
+        *self.bytes.allocator()
     }
 }
 
@@ -104,6 +119,14 @@ impl Angle {
     {
         self.bytes
     }
+
+    /// An equal angle.
+    pub fn copy(&self) -> Result<Angle, NoMemory>
+        ensures { IfOk result (λ angle. angle ≡ self.now) }
+    {
+        let bytes = self.bytes.clone()?;
+        Ok(Angle { bytes })
+    }
 }
 
 /// The angles of an item, in order.
@@ -155,4 +178,23 @@ impl AngleList {
     {
         self.angles
     }
+
+    /// An equal list.
+    pub fn copy(&self) -> Result<AngleList, NoMemory>
+        ensures { IfOk result (λ angles. angles ≡ self.now) }
+    {
+        let angles = copies(*self.angles.allocator(), self.angles.as_slice())?;
+        Ok(AngleList { angles })
+    }
+}
+
+// Copies of the angles, in order.
+fn copies(alloc: Global, angles: &[Angle]) -> Result<Vec<Angle>, NoMemory>
+    ensures { IfOk result (λ copies. copies.items ≡ angles.now) }
+{
+    let mut copies = Vec::new(alloc);
+    for angle in angles {
+        copies.push(angle.copy()?)?;
+    }
+    Ok(copies)
 }

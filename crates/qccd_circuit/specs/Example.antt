@@ -1,0 +1,46 @@
+-- Small items that the worked examples speak of.
+use Rattle.std.specs.Prelude.{ℕ, List, [], ◌∷◌, None, Some, Option, codes}
+use Rattle.qccd_circuit.specs.declared.kinds.ItemKind.TheVariants.{Gate1, Gate2, Measure}
+use Rattle.qccd_circuit.specs.declared.kinds.Cond.{Cond}
+use Rattle.qccd_circuit.specs.Item.{ItemData}
+
+-- the gate h on a qubit
+abbrev pub h_on : ℕ → ItemData
+h_on q = record {
+  kind = Gate1;
+  name = codes "h";
+  angles = [];
+  qubits = record { 0 = q } ∷ [];
+  bits = [];
+  cond = None;
+}
+
+-- the gate cx on two
+abbrev pub cx_on : ℕ → ℕ → ItemData
+cx_on p q = record {
+  kind = Gate2;
+  name = codes "cx";
+  angles = [];
+  qubits = record { 0 = p } ∷ record { 0 = q } ∷ [];
+  bits = [];
+  cond = None;
+}
+
+-- a measurement of a qubit into a bit
+abbrev pub measure_into : ℕ → ℕ → ItemData
+measure_into q b = record {
+  kind = Measure;
+  name = codes "measure";
+  angles = [];
+  qubits = record { 0 = q } ∷ [];
+  bits = record { 0 = b } ∷ [];
+  cond = None;
+}
+
+-- an h under the condition that so many bits from the first have the value 1
+abbrev pub h_under : ℕ → ℕ → ℕ → ItemData
+h_under q first count = record (h_on q) { cond = Some (record { first = record { 0 = first }; count = count; value = 1 }) }
+
+-- two gates on two qubits, and then one on both
+abbrev pub three_gates : List ItemData
+three_gates = h_on 0 ∷ h_on 1 ∷ cx_on 0 1 ∷ []
