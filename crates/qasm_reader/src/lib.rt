@@ -1,0 +1,10 @@
+//! The reading of circuits, as texts in OpenQASM 2.0. One small form is read for now.
+#![tactic(auto)]
+
+mod fault;
+mod laws;
+mod reading;
+
+pub use fault::{Many, QasmFault, QasmKind};
+pub use laws::{one_answer, one_reading};
+pub use reading::read;
