@@ -1,6 +1,6 @@
 -- The form that circuits have for now: the header, the include, one register of qubits, and gates on its cells, each on a
 -- line of its own, with no further spaces.
-use Rattle.std.specs.Prelude.{◌≡◌, ℕ, ◌<◌, ◌≤◌, Bool, false, ◌&&◌, not, IsTrue, List, [], ◌∷◌, ◌++◌, length, map, All, None, codes, decimal}
+use Rattle.std.specs.Prelude.{◌≡◌, ℕ, ◌<◌, ◌≤◌, Bool, false, ◌&&◌, not, IsTrue, List, [], ◌∷◌, ◌++◌, length, map, All, ◌⊎◌, None, codes, decimal}
 use Rattle.std.specs.Char.{is_ascii_lowercase}
 use Rattle.std.specs.List.{list_any, list_all, flat_map, join_with_byte}
 use Rattle.std.specs.Str.{bytes_eq}
@@ -53,7 +53,7 @@ form_text register c = head_text register c.qubits ++ flat_map (gate_line regist
 
 -- the gates that are known, by how many qubits they are on
 abbrev pub IsKnown : ItemKind → List ℕ → Type 0
-IsKnown Gate1 name = IsTrue (list_any (bytes_eq name) (codes "h" ∷ codes "x" ∷ []))
+IsKnown Gate1 name = (name ≡ codes "h") ⊎ (name ≡ codes "x")
 IsKnown Gate2 name = name ≡ codes "cx"
 IsKnown Measure name = ⊥
 IsKnown Reset name = ⊥

@@ -1,3 +1,5 @@
 pub mod Kind
 pub mod FirstForm
 pub mod Reading
+pub mod Gate
+pub mod Spelling

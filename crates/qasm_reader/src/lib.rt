@@ -2,7 +2,11 @@
 #![tactic(auto)]
 
 mod fault;
+mod gates;
+mod heads;
 mod laws;
+mod lines;
+mod pieces;
 mod reading;
 
 pub use fault::{Many, QasmFault, QasmKind};
