@@ -5,7 +5,7 @@ use Rattle.std.proofs.lemmas.Bool.{and_parts, true≢false, false≢true}
 use Rattle.std.proofs.lemmas.Bool.Decides.{nat_tests}
 use Rattle.std.specs.Int.{is_in_range}
 use Rattle.std.specs.List.{list_all}
-use Rattle.std.proofs.lemmas.List.{append_cancel_left, append-nil, length-append}
+use Rattle.std.proofs.lemmas.List.{append_cancel_left, append-nil, flat_map_more, length-append}
 use Rattle.std.proofs.lemmas.List.Concat.{flat_map-append}
 use Rattle.std.proofs.lemmas.List.Elements.{recursion_from_All, All-from_recursion}
 use Rattle.qccd_base.specs.declared.names.Qubit.{Qubit}
@@ -265,3 +265,66 @@ one_form text c d h k =
     let none = no_lines h.register c.qubits more.0 more.3 more.2 in
     let items : d.items ≡ c.items = more.1 ∙ ap (λ (t : List ItemData). c.items ++ t) none ∙ append-nil c.items in
     same_circuit c d heads.1 (h.no_bits ∙ sym k.no_bits) (sym items)
+
+pub All-identifier_apart : (word : List ℕ) → IsIdentifier word → All (λ b. b ≢ 91) word
+All-identifier_apart word h = All-from_recursion (λ b. b ≢ 91) word (identifier_apart word h)
+
+-- ---- one line more
+
+-- a gate is an item of the form
+pub gate_form : (n : ℕ) (g : Gate) → IsGateOn n g → IsFormItem n (item_of g)
+gate_form n (H q) on = record {
+  fits = record { name = (refl, omega arith); angles = (refl, omega arith); cond = tt; distinct = refl; kind = (refl, refl, (λ is. cc, λ is. cc, λ is. cc)) };
+  known = inl refl;
+  no_angles = refl;
+  no_cond = refl;
+  below = All-from_recursion (λ q. q.0 < n) (q ∷ []) (on.below, tt);
+}
+gate_form n (X q) on = record {
+  fits = record { name = (refl, omega arith); angles = (refl, omega arith); cond = tt; distinct = refl; kind = (refl, refl, (λ is. cc, λ is. cc, λ is. cc)) };
+  known = inr refl;
+  no_angles = refl;
+  no_cond = refl;
+  below = All-from_recursion (λ q. q.0 < n) (q ∷ []) (on.below, tt);
+}
+gate_form n (Cx p q) on = record {
+  fits = record { name = (refl, omega arith); angles = (refl, omega arith); cond = tt; distinct = apart p q on.apart; kind = (refl, refl, (λ is. cc, λ is. cc, λ is. cc)) };
+  known = refl;
+  no_angles = refl;
+  no_cond = refl;
+  below = All-from_recursion (λ q. q.0 < n) (p ∷ q ∷ []) (on.below.0, (on.below.1, tt));
+}
+  where
+    apart : (p q : Qubit) → p.0 ≢ q.0 → IsTrue (are_distinct (p ∷ q ∷ []))
+    apart p q differ = grind (arith, nat_tests)
+
+-- the text that was read grows by the gate's line
+pub lines_push :
+    (register : List ℕ) (items : List ItemData) (g : Gate) (text rest next : List ℕ)
+    → text ≡ flat_map (gate_line register) items ++ rest → rest ≡ gate_then register g next
+    → text ≡ flat_map (gate_line register) (items ++ item_of g ∷ []) ++ next
+lines_push register items g text rest next so_far is =
+    so_far
+    ∙ ap (λ (t : List ℕ). flat_map (gate_line register) items ++ t) (is ∙ sym (gate_line-then register g next))
+    ∙ sym (append_assoc (flat_map (gate_line register) items) (gate_line register (item_of g)) next)
+    ∙ ap (λ (t : List ℕ). t ++ next) (flat_map_more (gate_line register) [] items (item_of g))
+
+-- where lines of the form begin with these lines and go on, a gate's line follows
+pub next_line :
+    (register : List ℕ) (n : ℕ) (front items : List ItemData) (text rest : List ℕ) → n ≤ 256 → All (IsFormItem n) front → All (IsFormItem n) items
+    → text ≡ flat_map (gate_line register) front ++ rest → text ≡ flat_map (gate_line register) items → 0 < length rest
+    → (length front < length items) × ((g : Gate) × (next : List ℕ) × IsGateOn n g × (rest ≡ gate_then register g next))
+next_line register n front items text rest few all_front all_items so_far is some =
+    let more = more_lines register n front items rest few (recursion_from_All (IsFormItem n) front all_front)
+        (recursion_from_All (IsFormItem n) items all_items) (sym so_far ∙ is) in
+    from more.0 more.1 more.2 more.3
+  where
+    from :
+        (more : List ItemData) → items ≡ front ++ more → rest ≡ flat_map (gate_line register) more → AllByRecursion (IsFormItem n) more
+        → (length front < length items) × ((g : Gate) × (next : List ℕ) × IsGateOn n g × (rest ≡ gate_then register g next))
+    from [] all empty forms = absurd (omega (arith, ap (λ (t : List ℕ). length t) empty))
+    from (d ∷ more) all line forms =
+        let gate = form_gate n d forms.0 in
+        let next : List ℕ = flat_map (gate_line register) more in
+        let longer : length items ≡ length front + suc (length more) = ap (λ (t : List ItemData). length t) all ∙ length-append front (d ∷ more) in
+        (omega (arith, longer), (gate.0, next, gate.2, line ∙ ap (λ (e : ItemData). gate_line register e ++ next) gate.1 ∙ gate_line-then register gate.0 next))
