@@ -20,7 +20,7 @@ use Rattle.qasm_reader.specs.declared.gates.Gate.{Gate}
 use Rattle.qasm_reader.specs.declared.gates.Gate.TheVariants.{H, X, Cx}
 use Rattle.qasm_reader.specs.FirstForm.{IsFirstForm, IsFormItem, IsIdentifier, IsKnown, gate_line, head_text, is_small_word}
 use Rattle.qasm_reader.specs.Gate.{IsApart, IsBelow, IsGateOn, item_of, plain_gate}
-use Rattle.qasm_reader.specs.Spelling.{cell_then, gate_then, head_then, index_then, last_then, opening, pair_then}
+use Rattle.qasm_reader.specs.Spelling.{AreLines, cell_then, gate_then, head_then, index_then, last_then, opening, pair_then}
 
 -- ---- texts with what follows them
 
@@ -328,3 +328,40 @@ next_line register n front items text rest few all_front all_items so_far is som
         let next : List ℕ = flat_map (gate_line register) more in
         let longer : length items ≡ length front + suc (length more) = ap (λ (t : List ItemData). length t) all ∙ length-append front (d ∷ more) in
         (omega (arith, longer), (gate.0, next, gate.2, line ∙ ap (λ (e : ItemData). gate_line register e ++ next) gate.1 ∙ gate_line-then register gate.0 next))
+
+-- ---- a text and its parts
+
+pub form_head :
+    (text : List ℕ) (c : CircuitData) (h : IsFirstForm text c)
+    → text ≡ head_then h.register c.qubits (flat_map (gate_line h.register) c.items)
+form_head text c h = h.text_is ∙ head_text-then h.register c.qubits (flat_map (gate_line h.register) c.items)
+
+-- a head and its lines are a text of the form
+pub form_from_parts :
+    (text register : List ℕ) (n : ℕ) (lines : List ℕ) (c : CircuitData) → IsIdentifier register → 1 ≤ n → n ≤ 256
+    → text ≡ head_then register n lines → AreLines register n lines c → IsFirstForm text c
+form_from_parts text register n lines c name some few is h = record {
+  register = register;
+  identifier = name;
+  some = omega (arith, h.qubits);
+  few = omega (arith, h.qubits);
+  no_bits = h.no_bits;
+  few_items = h.few;
+  items = subst (λ (k : ℕ). All (IsFormItem k) c.items) (sym h.qubits) h.items;
+  text_is = is ∙ ap (λ (t : List ℕ). head_then register n t) h.text_is
+    ∙ ap (λ (k : ℕ). head_then register k (flat_map (gate_line register) c.items)) (sym h.qubits)
+    ∙ sym (head_text-then register c.qubits (flat_map (gate_line register) c.items));
+}
+
+-- a text of the form has these lines, where it has this head and these are its only parts
+pub lines_from_form :
+    (text register : List ℕ) (n : ℕ) (lines : List ℕ)
+    → ((word : List ℕ) (m : ℕ) (rest : List ℕ) → IsIdentifier word → 1 ≤ m → m ≤ 256 → text ≡ head_then word m rest
+        → (register ≡ word) × (n ≡ m) × (lines ≡ rest))
+    → (c : CircuitData) → IsFirstForm text c
+    → All (IsFormItem n) c.items × (lines ≡ flat_map (gate_line register) c.items)
+lines_from_form text register n lines only c h =
+    let rest : List ℕ = flat_map (gate_line h.register) c.items in
+    let parts = only h.register c.qubits rest h.identifier h.some h.few (form_head text c h) in
+    (subst (λ (k : ℕ). All (IsFormItem k) c.items) (sym parts.1) h.items,
+      parts.2 ∙ ap (λ (r : List ℕ). flat_map (gate_line r) c.items) (sym parts.0))

@@ -3,3 +3,4 @@ pub mod FirstForm
 pub mod Reading
 pub mod Gate
 pub mod Spelling
+pub mod Example

@@ -63,18 +63,33 @@ pub enum QasmFault {
 }
 
 impl From<AllocError> for QasmFault {
+    ghost use Rattle.std.specs.Prelude.{◌≡◌};
+    ghost use Rattle.qasm_reader.specs.declared.fault.QasmFault.TheVariants.{NoMemory};
+
+    ghost from_gives = { λ _ e. e ≡ NoMemory };
+
     fn from(_refused: AllocError) -> QasmFault {
         QasmFault::NoMemory
     }
 }
 
 impl<T: Drop> From<AllocFailed<T>> for QasmFault {
+    ghost use Rattle.std.specs.Prelude.{◌≡◌};
+    ghost use Rattle.qasm_reader.specs.declared.fault.QasmFault.TheVariants.{NoMemory};
+
+    ghost from_gives = { λ _ e. e ≡ NoMemory };
+
     fn from(_refused: AllocFailed<T>) -> QasmFault {
         QasmFault::NoMemory
     }
 }
 
 impl From<qccd_base::NoMemory> for QasmFault {
+    ghost use Rattle.std.specs.Prelude.{◌≡◌};
+    ghost use Rattle.qasm_reader.specs.declared.fault.QasmFault.TheVariants.{NoMemory};
+
+    ghost from_gives = { λ _ e. e ≡ NoMemory };
+
     fn from(_refused: qccd_base::NoMemory) -> QasmFault {
         QasmFault::NoMemory
     }

@@ -8,6 +8,7 @@ mod laws;
 mod lines;
 mod pieces;
 mod reading;
+pub mod worked;
 
 pub use fault::{Many, QasmFault, QasmKind};
 pub use laws::{one_answer, one_reading};
