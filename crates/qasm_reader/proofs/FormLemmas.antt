@@ -140,7 +140,7 @@ gate_then-some register (Cx p q) rest is = cc
 pub form_gate : (n : ℕ) (d : ItemData) → IsFormItem n d → (g : Gate) × (d ≡ item_of g) × IsGateOn n g
 form_gate n d h =
     parts d.kind d.name d.angles d.qubits d.bits d.cond h.known h.no_angles h.no_cond h.fits.kind h.fits.distinct
-      (recursion_from_All (λ q. q.0 < n) d.qubits h.below)
+    (recursion_from_All (λ q. q.0 < n) d.qubits h.below)
   where
     parts :
         (kind : ItemKind) (name : List ℕ) (angles : List (List ℕ)) (qubits : List Qubit) (bits : List Bit) (cond : Option Cond)
@@ -178,24 +178,24 @@ more_lines register n [] items rest few all_front all_items same = (items, refl,
 more_lines register n (d ∷ front) [] rest few all_front all_items same =
     let gate = form_gate n d all_front.0 in
     let at : (gate_line register d ++ flat_map (gate_line register) front) ++ rest
-        ≡ gate_then register gate.0 (flat_map (gate_line register) front ++ rest) =
-        append_assoc (gate_line register d) (flat_map (gate_line register) front) rest
-        ∙ ap (λ (e : ItemData). gate_line register e ++ (flat_map (gate_line register) front ++ rest)) gate.1
-        ∙ gate_line-then register gate.0 (flat_map (gate_line register) front ++ rest) in
+    ≡ gate_then register gate.0 (flat_map (gate_line register) front ++ rest) =
+    append_assoc (gate_line register d) (flat_map (gate_line register) front) rest
+    ∙ ap (λ (e : ItemData). gate_line register e ++ (flat_map (gate_line register) front ++ rest)) gate.1
+    ∙ gate_line-then register gate.0 (flat_map (gate_line register) front ++ rest) in
     absurd (gate_then-some register gate.0 (flat_map (gate_line register) front ++ rest) (sym same ∙ at))
 more_lines register n (d ∷ front) (e ∷ items) rest few all_front all_items same =
     let gate = form_gate n d all_front.0 in
     let other = form_gate n e all_items.0 in
     let at : (gate_line register d ++ flat_map (gate_line register) front) ++ rest
-        ≡ gate_then register gate.0 (flat_map (gate_line register) front ++ rest) =
-        append_assoc (gate_line register d) (flat_map (gate_line register) front) rest
-        ∙ ap (λ (e : ItemData). gate_line register e ++ (flat_map (gate_line register) front ++ rest)) gate.1
-        ∙ gate_line-then register gate.0 (flat_map (gate_line register) front ++ rest) in
+    ≡ gate_then register gate.0 (flat_map (gate_line register) front ++ rest) =
+    append_assoc (gate_line register d) (flat_map (gate_line register) front) rest
+    ∙ ap (λ (e : ItemData). gate_line register e ++ (flat_map (gate_line register) front ++ rest)) gate.1
+    ∙ gate_line-then register gate.0 (flat_map (gate_line register) front ++ rest) in
     let there : gate_line register e ++ flat_map (gate_line register) items ≡ gate_then register other.0 (flat_map (gate_line register) items) =
-        ap (λ (e : ItemData). gate_line register e ++ flat_map (gate_line register) items) other.1
-        ∙ gate_line-then register other.0 (flat_map (gate_line register) items) in
+    ap (λ (e : ItemData). gate_line register e ++ flat_map (gate_line register) items) other.1
+    ∙ gate_line-then register other.0 (flat_map (gate_line register) items) in
     let one = gate_then-unique register n gate.0 other.0 (flat_map (gate_line register) front ++ rest) (flat_map (gate_line register) items)
-        few gate.2.below other.2.below (sym at ∙ same ∙ there) in
+    few gate.2.below other.2.below (sym at ∙ same ∙ there) in
     let tail = more_lines register n front items rest few all_front.1 all_items.1 one.1 in
     let item : d ≡ e = gate.1 ∙ ap (λ (g : Gate). item_of g) one.0 ∙ sym other.1 in
     (tail.0, ap (λ (e : ItemData). e ∷ items) (sym item) ∙ ap (λ (t : List ItemData). d ∷ t) tail.1, tail.2, tail.3)
@@ -208,8 +208,8 @@ no_lines register n [] all is = refl
 no_lines register n (d ∷ items) all is =
     let gate = form_gate n d all.0 in
     let at : gate_line register d ++ flat_map (gate_line register) items ≡ gate_then register gate.0 (flat_map (gate_line register) items) =
-        ap (λ (e : ItemData). gate_line register e ++ flat_map (gate_line register) items) gate.1
-        ∙ gate_line-then register gate.0 (flat_map (gate_line register) items) in
+    ap (λ (e : ItemData). gate_line register e ++ flat_map (gate_line register) items) gate.1
+    ∙ gate_line-then register gate.0 (flat_map (gate_line register) items) in
     absurd (gate_then-some register gate.0 (flat_map (gate_line register) items) (is ∙ at))
 
 -- ---- one way to read the head
@@ -237,7 +237,7 @@ pub head_then-unique :
 head_then-unique register other m n lines next name word few_m few_n same =
     let inner = append_cancel_left opening (last_then register m lines) (last_then other n next) same in
     let names = front-unique (λ b. b ≢ 91) register other (91 ∷ index_then m (59 ∷ 10 ∷ lines)) (91 ∷ index_then n (59 ∷ 10 ∷ next))
-        (identifier_apart register name) (identifier_apart other word) (λ h. h refl) (λ h. h refl) inner in
+    (identifier_apart register name) (identifier_apart other word) (λ h. h refl) (λ h. h refl) inner in
     let parts = index_then-unique m n (59 ∷ 10 ∷ lines) (59 ∷ 10 ∷ next) (omega arith) (omega arith) (one names.1) in
     (names.0, parts.0, two parts.1)
   where
@@ -257,9 +257,9 @@ one_form text c d h k =
     let mine : List ℕ = flat_map (gate_line h.register) c.items in
     let other : List ℕ = flat_map (gate_line k.register) d.items in
     let heads = head_then-unique h.register k.register c.qubits d.qubits mine other h.identifier k.identifier h.few k.few
-        (sym (head_text-then h.register c.qubits mine) ∙ sym h.text_is ∙ k.text_is ∙ head_text-then k.register d.qubits other) in
+    (sym (head_text-then h.register c.qubits mine) ∙ sym h.text_is ∙ k.text_is ∙ head_text-then k.register d.qubits other) in
     let lines : mine ++ [] ≡ flat_map (gate_line h.register) d.items =
-        append-nil mine ∙ heads.2 ∙ ap (λ (r : List ℕ). flat_map (gate_line r) d.items) (sym heads.0) in
+    append-nil mine ∙ heads.2 ∙ ap (λ (r : List ℕ). flat_map (gate_line r) d.items) (sym heads.0) in
     let theirs = subst (λ (n : ℕ). AllByRecursion (IsFormItem n) d.items) (sym heads.1) (recursion_from_All (IsFormItem d.qubits) d.items k.items) in
     let more = more_lines h.register c.qubits c.items d.items [] h.few (recursion_from_All (IsFormItem c.qubits) c.items h.items) theirs lines in
     let none = no_lines h.register c.qubits more.0 more.3 more.2 in
@@ -316,7 +316,7 @@ pub next_line :
     → (length front < length items) × ((g : Gate) × (next : List ℕ) × IsGateOn n g × (rest ≡ gate_then register g next))
 next_line register n front items text rest few all_front all_items so_far is some =
     let more = more_lines register n front items rest few (recursion_from_All (IsFormItem n) front all_front)
-        (recursion_from_All (IsFormItem n) items all_items) (sym so_far ∙ is) in
+    (recursion_from_All (IsFormItem n) items all_items) (sym so_far ∙ is) in
     from more.0 more.1 more.2 more.3
   where
     from :
@@ -349,19 +349,20 @@ form_from_parts text register n lines c name some few is h = record {
   few_items = h.few;
   items = subst (λ (k : ℕ). All (IsFormItem k) c.items) (sym h.qubits) h.items;
   text_is = is ∙ ap (λ (t : List ℕ). head_then register n t) h.text_is
-    ∙ ap (λ (k : ℕ). head_then register k (flat_map (gate_line register) c.items)) (sym h.qubits)
-    ∙ sym (head_text-then register c.qubits (flat_map (gate_line register) c.items));
+      ∙ ap (λ (k : ℕ). head_then register k (flat_map (gate_line register) c.items)) (sym h.qubits)
+      ∙ sym (head_text-then register c.qubits (flat_map (gate_line register) c.items));
 }
 
 -- a text of the form has these lines, where it has this head and these are its only parts
 pub lines_from_form :
     (text register : List ℕ) (n : ℕ) (lines : List ℕ)
     → ((word : List ℕ) (m : ℕ) (rest : List ℕ) → IsIdentifier word → 1 ≤ m → m ≤ 256 → text ≡ head_then word m rest
-        → (register ≡ word) × (n ≡ m) × (lines ≡ rest))
+    → (register ≡ word) × (n ≡ m) × (lines ≡ rest))
     → (c : CircuitData) → IsFirstForm text c
     → All (IsFormItem n) c.items × (lines ≡ flat_map (gate_line register) c.items)
 lines_from_form text register n lines only c h =
     let rest : List ℕ = flat_map (gate_line h.register) c.items in
-    let parts = only h.register c.qubits rest h.identifier h.some h.few (form_head text c h) in
-    (subst (λ (k : ℕ). All (IsFormItem k) c.items) (sym parts.1) h.items,
-      parts.2 ∙ ap (λ (r : List ℕ). flat_map (gate_line r) c.items) (sym parts.0))
+    let parts = only h.register c.qubits rest h.identifier h.some h.few (form_head text c h) in (
+      subst (λ (k : ℕ). All (IsFormItem k) c.items) (sym parts.1) h.items,
+      parts.2 ∙ ap (λ (r : List ℕ). flat_map (gate_line r) c.items) (sym parts.0),
+    )

@@ -33,7 +33,7 @@ position_after byte front rest without =
     let text : List ℕ = front ++ byte ∷ rest in
     let len : length text ≡ length front + (1 + length rest) = length-append front (byte ∷ rest) ∙ omega arith in
     let at : position_or_len (λ b. eqb b byte) text ≡ length front =
-        position_or_len_is (λ b. eqb b byte) text (length front) 0 (omega (arith, len)) before there in
+    position_or_len_is (λ b. eqb b byte) text (length front) 0 (omega (arith, len)) before there in
     let inside : ltb (length front) (length text) ≡ true = lt-ltb (length front) (length text) (omega (arith, len)) in
     subst (λ (n : ℕ). cond (ltb n (length text)) (Some n) None ≡ Some (length front)) (sym at) (ap (λ (b : Bool). cond b (Some (length front)) None) inside)
   where
@@ -53,7 +53,7 @@ split_found byte text at found =
     let place = position-Some (λ b. eqb b byte) text at 0 (sym found) in
     let is : get_or text at 0 ≡ byte = same (get_or text at 0) place.1 in
     let back : drop at text ≡ byte ∷ take (length text - (at + 1)) (drop (at + 1) text) =
-        drop_more text at 0 place.0 ∙ ap (λ (b : ℕ). b ∷ drop (at + 1) text) is ∙ ap (λ (t : List ℕ). byte ∷ t) (sym (take_rest text (at + 1))) in
+    drop_more text at 0 place.0 ∙ ap (λ (b : ℕ). b ∷ drop (at + 1) text) is ∙ ap (λ (t : List ℕ). byte ∷ t) (sym (take_rest text (at + 1))) in
     sym (take-append-drop at text) ∙ ap (λ (t : List ℕ). take at text ++ t) back
   where
     same : (b : ℕ) → eqb b byte ≡ true → b ≡ byte
@@ -66,12 +66,12 @@ pub split_exact :
     → (take at text ≡ front) × (take (length text - (at + 1)) (drop (at + 1) text) ≡ rest)
 split_exact byte text at found front rest without is =
     let place : position (λ b. eqb b byte) text ≡ Some (length front) =
-        ap (λ (t : List ℕ). position (λ b. eqb b byte) t) is ∙ position_after byte front rest without in
+    ap (λ (t : List ℕ). position (λ b. eqb b byte) t) is ∙ position_after byte front rest without in
     let len : length front ≡ at = value (found ∙ place) in
     let before : take at text ≡ front = ap (λ (t : List ℕ). take at t) is ∙ take_at front (byte ∷ rest) at len in
     let after : List ℕ = take (length text - (at + 1)) (drop (at + 1) text) in
     let both : front ++ byte ∷ after ≡ front ++ byte ∷ rest =
-        ap (λ (t : List ℕ). t ++ byte ∷ after) (sym before) ∙ sym (split_found byte text at found) ∙ is in
+    ap (λ (t : List ℕ). t ++ byte ∷ after) (sym before) ∙ sym (split_found byte text at found) ∙ is in
     let tails : byte ∷ after ≡ byte ∷ rest = append_cancel_left front (byte ∷ after) (byte ∷ rest) both in
     (before, cc)
   where
@@ -84,7 +84,7 @@ pub split_none :
     → All (λ b. b ≢ byte) front → text ≡ front ++ byte ∷ rest → ⊥
 split_none byte text front rest none without is =
     let place : position (λ b. eqb b byte) text ≡ Some (length front) =
-        ap (λ (t : List ℕ). position (λ b. eqb b byte) t) is ∙ position_after byte front rest without in
+    ap (λ (t : List ℕ). position (λ b. eqb b byte) t) is ∙ position_after byte front rest without in
     let both : None ≡ Some (length front) = none ∙ place in cc
 
 -- a number is written without this byte

@@ -46,11 +46,7 @@ fn read_last<'a>(register: &[u8], count: u16, text: &'a [u8]) -> Option<(Qubit, 
 }
 
 // Two cells at the end of a line, and the lines that follow.
-fn read_pair<'a>(
-    register: &[u8],
-    count: u16,
-    text: &'a [u8],
-) -> Option<(Qubit, Qubit, &'a [u8])>
+fn read_pair<'a>(register: &[u8], count: u16, text: &'a [u8]) -> Option<(Qubit, Qubit, &'a [u8])>
     ensures found { IfSome result (λ p. (p.0.0 < count) × (p.1.0 < count) × (text.now ≡ pair_then register.now p.0.0 p.1.0 p.2.now)) }
     ensures exact { (m n : ℕ) (rest : List ℕ) → m < count → n < count → text.now ≡ pair_then register.now m n rest
         → IsSomeAnd result (λ p. (p.0.0 ≡ m) × (p.1.0 ≡ n) × (p.2.now ≡ rest)) }

@@ -41,3 +41,64 @@ fn read_form(alloc: Global, text: &[u8]) -> Result<Option<Circuit>, NoMemory>
         None => Ok(None),
     }
 }
+
+#[cfg(test)]
+mod tests {
+    use super::*;
+    use std::process::Abort;
+
+    const HEAD: &str = "OPENQASM 2.0;\ninclude \"qelib1.inc\";\n";
+
+    // The answer to the text of this head and these lines.
+    fn answer(
+        rt: &impl Abort,
+        alloc: Global,
+        head: &str,
+        lines: &str,
+    ) -> Result<Circuit, QasmFault> {
+        let text = format!(in alloc; "{head}{lines}").expect(rt, "memory");
+        assert!(rt; text.len() <= 16777216);
+        read(alloc, text.as_bytes())
+    }
+
+    #[test]
+    fn reads_a_bell_pair(rt: HostRuntime) {
+        let lines = "qreg q[2];\nh q[0];\ncx q[0],q[1];\n";
+        let circuit = answer(&rt, rt.alloc(), HEAD, lines).expect(&rt, "a circuit");
+        assert_eq!(rt; circuit.qubits(), 2);
+        assert_eq!(rt; circuit.bits(), 0);
+        let items = circuit.items();
+        assert_eq!(rt; items.len(), 2);
+        let words = [(b"h".as_slice(), 1), (b"cx".as_slice(), 2)];
+        for (item, (name, qubits)) in items.iter().zip(words) {
+            assert_eq!(rt; item.name().as_slice(), name);
+            assert_eq!(rt; item.qubits().len(), qubits);
+        }
+    }
+
+    #[test]
+    fn refuses_other_texts(rt: HostRuntime) {
+        let texts = [
+            ("", ""),
+            ("", "qreg q[2];\n"),
+            (HEAD, "qreg q[2];\nh q[0];\ncx q[0],q[1];"),
+            (HEAD, "qreg q[2];\ny q[0];\n"),
+            (HEAD, "qreg q[2];\nh q[2];\n"),
+            (HEAD, "qreg q[2];\ncx q[1],q[1];\n"),
+            (HEAD, "qreg q[0];\n"),
+            (HEAD, "qreg q[257];\n"),
+            (HEAD, "qreg q[02];\n"),
+            (HEAD, "qreg if[2];\n"),
+            (HEAD, "qreg q[2];\nh  q[0];\n"),
+            (HEAD, "qreg q[2];\n\nh q[0];\n"),
+        ];
+        for (head, lines) in texts {
+            let fault = answer(&rt, rt.alloc(), head, lines).err();
+            let not_built = QasmFault::Refused {
+                at: 0,
+                kind: QasmKind::NotBuilt,
+            };
+            assert_eq!(rt; fault, Some(not_built), "{lines}");
+        }
+    }
+}

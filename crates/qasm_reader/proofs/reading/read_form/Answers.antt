@@ -16,9 +16,9 @@ returns-in-Some-clause-found c =
     let n = c.in-Some.head.count in
     let lines = c.in-Some.head.lines.now in
     IfOk-weaker c.read_lines.result (λ answer. IfSome answer (AreLines register n lines)) (λ answer. IfSome answer (IsFirstForm text))
-      (λ answer are. IfSome_then answer are (λ d h.
-        form_from_parts text register n lines d c.in-Some.ensures.identifier c.in-Some.ensures.count.0 c.in-Some.ensures.count.1 c.in-Some.ensures.found h))
-      c.read_lines.ensures.found
+    (λ answer are. IfSome_then answer are (λ d h.
+    form_from_parts text register n lines d c.in-Some.ensures.identifier c.in-Some.ensures.count.0 c.in-Some.ensures.count.1 c.in-Some.ensures.found h))
+    c.read_lines.ensures.found
 
 -- lines that are none of the form leave no circuit
 no_form :
@@ -37,12 +37,12 @@ returns-in-Some-clause-none c =
     let n = c.in-Some.head.count in
     let lines = c.in-Some.head.lines.now in
     IfOk-weaker c.read_lines.result
-      (λ answer. IfNone answer ((items : List ItemData) → length items ≤ 65536 → All (IsFormItem n) items → lines ≢ flat_map (gate_line register) items))
-      (λ answer. IfNone answer ((d : CircuitData) → IsFirstForm text d → ⊥))
-      (no_form text register n lines (lines_from_form text register n lines c.in-Some.ensures.exact))
-      c.read_lines.ensures.none
+    (λ answer. IfNone answer ((items : List ItemData) → length items ≤ 65536 → All (IsFormItem n) items → lines ≢ flat_map (gate_line register) items))
+    (λ answer. IfNone answer ((d : CircuitData) → IsFirstForm text d → ⊥))
+    (no_form text register n lines (lines_from_form text register n lines c.in-Some.ensures.exact))
+    c.read_lines.ensures.none
 
 pub returns-in-None-clause-none : goal.returns-in-None-clause-none
 returns-in-None-clause-none c = λ d h.
     absurd (c.in-None.ensures.exact h.register d.qubits (flat_map (gate_line h.register) d.items) h.identifier h.some h.few
-      (form_head c.args.text.now d h))
+    (form_head c.args.text.now d h))
