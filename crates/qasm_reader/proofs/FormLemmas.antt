@@ -1,25 +1,24 @@
 -- A text of the form is that of one circuit at most.
-use Rattle.std.proofs.Common.{◌≡◌, ◌≢◌, ◌⊎◌, inl, inr, ℕ, suc, ◌+◌, ◌<◌, ◌≤◌, ◌^◌, Bool, true, false, cond, eqb, not, ◌||◌, ◌&&◌, IsTrue, List, [], ◌∷◌, ◌++◌, length, map, Option, None, decimal, codes, refl, sym, ap, ◌∙◌, subst, append_assoc, arith}
+use Rattle.std.proofs.Common.{◌≡◌, ◌≢◌, inl, inr, ℕ, suc, ◌+◌, ◌<◌, ◌≤◌, ◌^◌, true, cond, IsTrue, List, [], ◌∷◌, ◌++◌, length, Option, None, refl, sym, ap, ◌∙◌, subst, append_assoc, arith}
 use Rattle.std.specs.List.{AllByRecursion, All, flat_map}
-use Rattle.std.proofs.lemmas.Bool.{and_parts, true≢false, false≢true}
+use Rattle.std.proofs.lemmas.Bool.{and_parts, false≢true}
 use Rattle.std.proofs.lemmas.Bool.Decides.{nat_tests}
 use Rattle.std.specs.Int.{is_in_range}
 use Rattle.std.specs.List.{list_all}
 use Rattle.std.proofs.lemmas.List.{append_cancel_left, append-nil, flat_map_more, length-append}
-use Rattle.std.proofs.lemmas.List.Concat.{flat_map-append}
 use Rattle.std.proofs.lemmas.List.Elements.{recursion_from_All, All-from_recursion}
 use Rattle.qccd_base.specs.declared.names.Qubit.{Qubit}
 use Rattle.qccd_base.specs.declared.names.Bit.{Bit}
-use Rattle.qccd_base.proofs.Decimal.{Ends, IsDigit, decimal-front-unique, front-unique}
+use Rattle.qccd_base.proofs.Decimal.{IsDigit, decimal-front-unique, front-unique}
 use Rattle.qccd_circuit.specs.declared.kinds.ItemKind.{ItemKind}
 use Rattle.qccd_circuit.specs.declared.kinds.ItemKind.TheVariants.{Gate1, Gate2, Measure, Reset, Barrier}
 use Rattle.qccd_circuit.specs.declared.kinds.Cond.{Cond}
-use Rattle.qccd_circuit.specs.Item.{ItemData, Fits, FitsKind, are_distinct, is_name_byte}
+use Rattle.qccd_circuit.specs.Item.{ItemData, FitsKind, are_distinct, is_name_byte}
 use Rattle.qccd_circuit.specs.Circuit.{CircuitData}
 use Rattle.qasm_reader.specs.declared.gates.Gate.{Gate}
 use Rattle.qasm_reader.specs.declared.gates.Gate.TheVariants.{H, X, Cx}
-use Rattle.qasm_reader.specs.FirstForm.{IsFirstForm, IsFormItem, IsIdentifier, IsKnown, gate_line, head_text, is_small_word}
-use Rattle.qasm_reader.specs.Gate.{IsApart, IsBelow, IsGateOn, item_of, plain_gate}
+use Rattle.qasm_reader.specs.FirstForm.{IsFirstForm, IsFormItem, IsIdentifier, IsKnown, gate_line, head_text}
+use Rattle.qasm_reader.specs.Gate.{IsBelow, IsGateOn, item_of}
 use Rattle.qasm_reader.specs.Spelling.{AreLines, cell_then, gate_then, head_then, index_then, last_then, opening, pair_then}
 
 -- ---- texts with what follows them

@@ -1,6 +1,6 @@
 -- The form that circuits have for now: the header, the include, one register of qubits, and gates on its cells, each on a
 -- line of its own, with no further spaces.
-use Rattle.std.specs.Prelude.{◌≡◌, ℕ, ◌<◌, ◌≤◌, Bool, false, ◌&&◌, not, IsTrue, List, [], ◌∷◌, ◌++◌, length, map, All, ◌⊎◌, None, codes, decimal}
+use Rattle.std.specs.Prelude.{◌≡◌, ℕ, ◌<◌, ◌≤◌, Bool, false, ◌&&◌, IsTrue, List, [], ◌∷◌, ◌++◌, length, map, All, ◌⊎◌, None, codes, decimal}
 use Rattle.std.specs.Char.{is_ascii_lowercase}
 use Rattle.std.specs.List.{list_any, list_all, flat_map, join_with_byte}
 use Rattle.std.specs.Str.{bytes_eq}

@@ -1,7 +1,6 @@
 -- The parts of the form, each with the text that follows it.
 use Rattle.std.specs.Prelude.{◌≡◌, ℕ, ◌≤◌, List, ◌∷◌, ◌++◌, length, All, codes, decimal}
 use Rattle.std.specs.List.{flat_map}
-use Rattle.qccd_base.specs.declared.names.Qubit.{Qubit}
 use Rattle.qccd_circuit.specs.Circuit.{CircuitData}
 use Rattle.qasm_reader.specs.declared.gates.Gate.{Gate}
 use Rattle.qasm_reader.specs.declared.gates.Gate.TheVariants.{H, X, Cx}

@@ -94,11 +94,8 @@ mod tests {
         ];
         for (head, lines) in texts {
             let fault = answer(&rt, rt.alloc(), head, lines).err();
-            let not_built = QasmFault::Refused {
-                at: 0,
-                kind: QasmKind::NotBuilt,
-            };
-            assert_eq!(rt; fault, Some(not_built), "{lines}");
+            let kind = QasmKind::NotBuilt;
+            assert_eq!(rt; fault, Some(QasmFault::Refused { at: 0, kind }), "{lines}");
         }
     }
 }

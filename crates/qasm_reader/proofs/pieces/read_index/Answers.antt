@@ -1,5 +1,5 @@
 -- The digits of a number end before the bracket.
-use Rattle.std.proofs.Common.{◌≡◌, Some, None, decimal, arith}
+use Rattle.std.proofs.Common.{decimal, arith}
 use Rattle.std.proofs.lemmas.Option.{same_Some, none-some}
 use Rattle.qasm_reader.proofs.PieceLemmas.{All-decimal_apart}
 use Rattle.qasm_reader.proofs.pieces.read_index.Goals as goal

@@ -1,5 +1,5 @@
 -- By computation, the two gates as they fit elsewhere.
-use Rattle.std.proofs.Common.{◌≡◌, ◌∷◌, [], codes, decimal, refl, inl, arith}
+use Rattle.std.proofs.Common.{◌≡◌, codes, decimal, refl, arith}
 use Rattle.std.proofs.lemmas.Fmt.{decimal_digit}
 use Rattle.std.proofs.lemmas.List.Elements.{All-from_recursion}
 use Rattle.qasm_reader.specs.declared.gates.Gate.TheVariants.{H, Cx}
