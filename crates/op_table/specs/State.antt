@@ -1,5 +1,5 @@
 -- Where the ions are, which qubit each carries, and how hot everything is.
-use Rattle.std.specs.Prelude.{◌≡◌, ℕ, ◌+◌, ◌<◌, ◌≤◌, Bool, false, ◌&&◌, ◌==◌, List, [], ◌∷◌, length, map, replicate, Option, Some, None, option_map, get_or, count_by, find, position}
+use Rattle.std.specs.Prelude.{◌≡◌, ℕ, ◌+◌, ◌<◌, ◌≤◌, Bool, false, ◌&&◌, ◌==◌, nat_lt, if◌then◌else◌, List, [], ◌∷◌, length, map, replicate, Option, Some, None, option_map, get_or, count_by, find, position}
 use Rattle.std.specs.List.{range_with_len}
 use Rattle.qccd_base.specs.declared.names.Ion.{Ion}
 use Rattle.qccd_base.specs.declared.names.Qubit.{Qubit}
@@ -80,10 +80,12 @@ opening qubits bits chains = record {
 }
 
 -- every place keeps its bound: in each trap the indexes are 0, 1, .. once each, and no more than the
--- capacity; a segment and a junction hold one ion at most; each qubit is carried by one ion
+-- capacity; a segment and a junction hold one ion at most, and one that is not there holds none; each
+-- qubit is carried by one ion
 pub record IsSafe (m : MachineData) (s : State) : Type 0 where
+  pub heats : length s.heats ≡ length m.capacities
   pub capacities : (t : ℕ) → ions_in s t ≤ get_or m.capacities t 0
   pub indexes : (t k : ℕ) → k < ions_in s t → count_by (λ w. is_at t k w.spot) s.ions ≡ 1
-  pub segments : (g : ℕ) → count_by (λ w. is_on g w.spot) s.ions ≤ 1
-  pub junctions : (j : ℕ) → count_by (λ w. is_within j w.spot) s.ions ≤ 1
+  pub segments : (g : ℕ) → count_by (λ w. is_on g w.spot) s.ions ≤ (if nat_lt g (length m.segments) then 1 else 0)
+  pub junctions : (j : ℕ) → count_by (λ w. is_within j w.spot) s.ions ≤ (if nat_lt j m.junctions then 1 else 0)
   pub qubits : (q : ℕ) → q < length s.ions → count_by (λ w. w.qubit.0 == q) s.ions ≡ 1

@@ -15,6 +15,7 @@ use Rattle.op_table.specs.declared.kinds.OpKind.{OpKind}
 use Rattle.op_table.specs.declared.kinds.OpKind.TheVariants.{Split, Move, Enter, Leave, Merge, Rot, GSwap, Item, Fence}
 use Rattle.op_table.specs.declared.kinds.Why.{Why}
 use Rattle.op_table.specs.declared.kinds.Why.TheVariants.{NoPlace, NoIon, Occupied, Full, NotJoined, WrongEnd, Position, WrongQubit, WrongTraps}
+use Rattle.op_table.specs.Op.{IsOp}
 use Rattle.op_table.specs.State.{Spot, InTrap, OnSegment, InJunction, Stand, State, is_in, is_at, is_on, is_within, ions_in, qubit_at, heat_of, rider_on, rider_in}
 
 abbrev pub has_trap : MachineData → ℕ → Bool
@@ -209,5 +210,6 @@ effect m s (Fence number item traps) = s
 
 -- from one state an operation leads to one other at most
 pub record Step (m : MachineData) (s : State) (op : OpKind) (z : State) : Type 0 where
+  pub kept : IsOp op
   pub legal : why m s op ≡ None
   pub leaves : z ≡ effect m s op

@@ -1,3 +1,4 @@
+use Rattle.std.specs.Prelude.{ℕ, List, [], ◌∷◌}
 use Rattle.qccd_base.specs.declared.times.Times.{Times}
 
 -- the times of a machine where none are given, in microseconds
@@ -16,3 +17,7 @@ usual = record {
   gate2 = 100;
   between = 10;
 }
+
+-- the times in the order of their fields
+abbrev pub times_of : Times → List ℕ
+times_of t = t.split ∷ t.merge ∷ t.shift ∷ t.cross2 ∷ t.cross3 ∷ t.cross4 ∷ t.rot ∷ t.gate1 ∷ t.measure ∷ t.reset ∷ t.gate2 ∷ t.between ∷ []

@@ -213,7 +213,7 @@ impl TrapList {
     }
 }
 
-/// Positpositions in a chain, counted from 0 at the left, in the order of the operands.
+/// Positions in a chain, counted from 0 at the left, in the order of the operands.
 #[derive(Debug, Drop)]
 pub struct PosList {
     positions: Vec<u8>,

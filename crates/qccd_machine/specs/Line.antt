@@ -15,7 +15,7 @@ abbrev pub line : ℕ → ℕ → MachineData
 line traps capacity = record {
   capacities = replicate traps capacity;
   junctions = 0;
-  segments = map link (range_with_len (traps - 1) 0);
+  segments = map link (range_with_len 0 (traps - 1));
   times = usual;
 }
 

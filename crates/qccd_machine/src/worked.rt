@@ -1,6 +1,6 @@
 //! Worked examples over the definitions, each a function whose contract is the fact.
 
-ghost use Rattle.std.specs.Prelude.{◌≡◌, [], ◌∷◌, replicate};
+ghost use Rattle.std.specs.Prelude.{length, ◌≡◌, [], ◌∷◌, replicate};
 ghost use Rattle.qccd_base.specs.Times.{usual};
 ghost use Rattle.qccd_machine.specs.Machine.{MachineData, IsValid, slots_of, worst_of};
 ghost use Rattle.qccd_machine.specs.Line.{line, stray};
@@ -8,6 +8,7 @@ ghost use Rattle.qccd_machine.specs.Line.{line, stray};
 /// A line of 32 traps that hold two ions each takes 63 qubits, and one item takes at most 3,969
 /// operations.
 pub fn line_of_32_pairs()
+    ensures segments { length (line 32 2).segments ≡ 31 }
     ensures slots { slots_of (line 32 2) ≡ 63 }
     ensures worst { worst_of (line 32 2) ≡ 3969 }
 {}

@@ -20,3 +20,9 @@ duration_of t Reset = t.reset
 duration_of t (Gate2 ions) = gate2_time t ions
 duration_of t (GSwap ions) = 3 * gate2_time t ions
 duration_of t Fence = 0
+
+-- how many ions stand between the two of a gate
+abbrev pub ions_inside : Work → ℕ
+ions_inside (Gate2 ions) = ions
+ions_inside (GSwap ions) = ions
+ions_inside _ = 0

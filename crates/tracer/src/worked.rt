@@ -7,5 +7,4 @@ ghost use Rattle.tracer.specs.Bell.{bell, bell_report};
 /// The report of the Bell pair on one trap, byte by byte.
 pub fn bell_pair()
     ensures { report_text bell ≡ bell_report }
-{
-}
+{}

@@ -1,0 +1,2 @@
+//! The transport program of a circuit on a machine of one trap, and its report.
+#![tactic(auto)]

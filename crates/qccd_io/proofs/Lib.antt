@@ -1,0 +1,5 @@
+pub mod Exits
+pub mod Appended
+pub mod Faulting
+pub mod Lending
+pub mod Telling

@@ -1,0 +1,6 @@
+pub mod Faults
+pub mod Fetch
+pub mod Memory
+pub mod Shelf
+pub mod Sink
+pub mod Source
