@@ -20,12 +20,16 @@ pub data AskedMachine : Type 0 where
 pub data Asked : Type 0 where
   AskedRun : (machine : AskedMachine) (circuit : List ℕ) (workers : ℕ) (mode : Mode) → Asked
 
--- the capacity of a preset with this name: 16 where the word is the name alone, and a number from 2 to
--- 32 whose text stands after the name and a colon
+-- the capacities that a word may give, from 2 to 32
+unfoldable pub capacities : List ℕ
+capacities = range_with_len 2 31
+
+-- the capacity of a preset with this name: 16 where the word is the name alone, and else the one
+-- whose text stands after the name and a colon
 abbrev pub capacity_after : List ℕ → List ℕ → Option ℕ
 capacity_after name word =
     if bytes_eq word name then Some 16
-    else find (λ capacity. bytes_eq word (name ++ codes ":" ++ decimal capacity)) (range_with_len 2 31)
+    else find (λ capacity. bytes_eq word (name ++ (codes ":" ++ decimal capacity))) capacities
 
 -- the machine that a word names
 abbrev pub machine_of : List ℕ → Option AskedMachine

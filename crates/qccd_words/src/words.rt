@@ -62,11 +62,11 @@ fn machine_word(word: &str) -> Option<MachineWord<'_>>
 fn capacity_word(name: &[u8], word: &[u8]) -> Option<u8>
     ensures { result ≡ capacity_after name.now word.now }
 {
-    match word.strip_prefix(name)? {
-        [] => Some(USUAL_CAPACITY),
-        [b':', digits @ ..] => capacity(digits),
-        _ => None,
+    let rest = word.strip_prefix(name)?;
+    if rest.is_empty() {
+        return Some(USUAL_CAPACITY);
     }
+    capacity(rest.strip_prefix(b":")?)
 }
 
 // The capacity whose decimal text this is.
