@@ -44,7 +44,6 @@ other xs ys apart = at (bytes_eq xs ys) refl
     at true is = absurd (apart ((bytes_eq-Decides xs ys).0 is))
     at false is = is
 
-
 -- a word that is not the name, nor has any of the capacities
 none_of : (name word : List ℕ) → word ≢ name → ((n : ℕ) → 2 ≤ n → n ≤ 32 → word ≢ name ++ (codes ":" ++ decimal n))
     → capacity_after name word ≡ None
@@ -113,5 +112,5 @@ capacity-given name word rest digits None is colon exact some =
         let same_digits : digits ≡ decimal n = append_cancel_left (codes ":") digits (decimal n) tails in
         let found : None ≡ Some n = (exact n low high).1 same_digits in cc
 capacity-given name word rest digits (Some k) is colon exact some =
-    sym (one_of name word k (longer name word rest is (λ empty. cc)) some.0.0 some.0.1
-    (is ∙ ap (λ (t : List ℕ). name ++ t) (colon ∙ ap (λ (t : List ℕ). codes ":" ++ t) some.1)))
+    sym (one_of name word k (longer name word rest is (λ empty. cc)) some.0 some.1
+    (is ∙ ap (λ (t : List ℕ). name ++ t) (colon ∙ ap (λ (t : List ℕ). codes ":" ++ t) some.2)))

@@ -3,6 +3,7 @@
 
 mod refusal;
 mod words;
+pub mod worked;
 
 pub use refusal::{Refusal, tell};
 pub use words::{Command, MachineWord, request};
