@@ -2,7 +2,11 @@
 #![tactic(auto)]
 
 mod refusal;
+#[cfg(test)]
+mod refusal_tests;
 mod words;
+#[cfg(test)]
+mod words_tests;
 pub mod worked;
 
 pub use refusal::{Refusal, tell};

@@ -15,7 +15,8 @@ const USUAL_WORKERS: u8 = 4;
 /// A machine, as a word names it.
 #[derive(Clone, Copy, Debug, PartialEq, Eq, Hash)]
 pub enum MachineWord<'a> {
-    /// A machine that is known by name, and how many ions each of its traps holds at most.
+    /// A machine that is known by name, and how many ions each of its traps holds at most: a number
+    /// from 2 to 32.
     Preset(Preset, u8),
     /// The name of a file that describes the machine.
     File(&'a str),
@@ -29,6 +30,7 @@ pub enum Command<'a> {
         machine: MachineWord<'a>,
         /// The name of the circuit's file.
         circuit: &'a str,
+        /// How many workers run the program.
         workers: u8,
         mode: Mode,
     },
@@ -36,6 +38,10 @@ pub enum Command<'a> {
 
 /// What the words ask for, or `None` where they are of no form that is known. The words are those
 /// after the program's own name. It takes no memory.
+///
+/// For now one form is known, `run MACHINE CIRCUIT`. The machine is `@single`, or `@single:C` with a
+/// number C from 2 to 32 that has no sign and no leading zero. The circuit is any word as it stands,
+/// an empty one too.
 pub fn request(words: &[String]) -> Option<Command<'_>>
     ensures { option_map asked result ≡ request_of (map string_bytes words.now) }
 {
@@ -77,75 +83,5 @@ fn capacity(digits: &[u8]) -> Option<u8>
     match read_number(digits)? {
         number @ 2..=32 => Some(number as u8),
         _ => None,
-    }
-}
-
-#[cfg(test)]
-mod tests {
-    use super::*;
-    use std::alloc::{AllocError, Global};
-    use std::test::Fail;
-
-    // The words between the blanks.
-    fn words_of(alloc: Global, text: &str) -> Result<Vec<String>, AllocError> {
-        let mut words = Vec::new(alloc);
-        for word in text.split(' ') {
-            words.push(String::from_str(alloc, word)?)?;
-        }
-        Ok(words)
-    }
-
-    #[test]
-    fn reads_runs(rt: HostRuntime) -> Result<(), Fail> {
-        // The capacity and the circuit's name.
-        let table = [
-            ("run @single a", 16, "a"),
-            ("run @single:2 a", 2, "a"),
-            ("run @single:10 b.qasm", 10, "b.qasm"),
-            ("run @single:32 a", 32, "a"),
-            ("run @single ", 16, ""),
-            ("run @single --workers", 16, "--workers"),
-        ];
-        for (text, capacity, name) in table {
-            let words = words_of(rt.alloc(), text)?;
-            let asked = Command::Run {
-                machine: MachineWord::Preset(Preset::Single, capacity),
-                circuit: name,
-                workers: 4,
-                mode: Mode::IonSwap,
-            };
-            assert_eq!(rt; request(&words), Some(asked), "{text}");
-        }
-        Ok(())
-    }
-
-    #[test]
-    fn reads_nothing_else(rt: HostRuntime) -> Result<(), Fail> {
-        let none = Vec::new(rt.alloc());
-        assert_eq!(rt; request(&none), None);
-        let table = [
-            "",
-            "run",
-            "run @single",
-            "run @L6:16",
-            "run @L6 a",
-            "run @L6:33 a",
-            "run @single:1 a",
-            "run @single:33 a",
-            "run @single:02 a",
-            "run @single: a",
-            "run @single:+2 a",
-            "run @single16 a",
-            "run @single a --workers 4",
-            "run @single a b",
-            "runs @single a",
-            "exec @single p",
-            "run m.toml a",
-        ];
-        for text in table {
-            let words = words_of(rt.alloc(), text)?;
-            assert_eq!(rt; request(&words), None, "{text}");
-        }
-        Ok(())
     }
 }
