@@ -1,0 +1,116 @@
+-- The capacity that a preset's word names.
+use Rattle.std.proofs.Common.{◌≡◌, ◌≢◌, ◌↔◌, ℕ, zero, suc, ◌+◌, ◌<◌, ◌≤◌, Bool, true, false, List, [], ◌∷◌, ◌++◌, length, ◌==◌, Option, Some, None, IfSome, find, codes, decimal, refl, sym, ap, ◌∙◌, arith}
+use Rattle.std.specs.List.{range_with_len}
+use Rattle.std.specs.Str.{bytes_eq}
+use Rattle.std.proofs.lemmas.Fmt.{decimal_injective}
+use Rattle.std.proofs.lemmas.List.{append_cancel_left, append-nil}
+use Rattle.std.proofs.lemmas.Slice.Eq.{bytes_eq-Decides}
+use Rattle.qccd_words.specs.Words.{capacities, capacity_after}
+
+-- ---- the first number of a range that does
+
+find_none :
+    (p : ℕ → Bool) (a n : ℕ) → ((j : ℕ) → a ≤ j → j < a + n → p j ≡ false) → find p (range_with_len a n) ≡ None
+find_none p a zero each = refl
+find_none p a (suc n) each =
+    rw (each a (omega arith) (omega arith)) (find_none p (a + 1) n (λ j low high. each j (omega arith) (omega arith)))
+
+either : (p : ℕ → Bool) (a n k : ℕ) (b : Bool) → p a ≡ b → (p a ≡ true → a ≡ k)
+    → (p a ≡ false → find p (range_with_len (a + 1) n) ≡ Some k) → find p (range_with_len a (suc n)) ≡ Some k
+either p a n k true is here later = rw is (ap Some (here is))
+either p a n k false is here later = rw is (later is)
+
+find_only :
+    (p : ℕ → Bool) (a n k : ℕ) → a ≤ k → k < a + n → p k ≡ true
+    → ((j : ℕ) → a ≤ j → j < a + n → p j ≡ true → j ≡ k) → find p (range_with_len a n) ≡ Some k
+find_only p a zero k low high here only = absurd (omega arith)
+find_only p a (suc n) k low high here only =
+    either p a n k (p a) refl (only a (omega arith) (omega arith))
+    (λ not_here. find_only p (a + 1) n k (above not_here) (omega arith) here (λ j from to. only j (omega arith) (omega arith)))
+  where
+    above : p a ≡ false → a + 1 ≤ k
+    above not_here = let apart : a ≢ k = λ is. cc in omega arith
+
+-- ---- the word
+
+-- the test says which texts are equal
+same : (xs ys : List ℕ) → xs ≡ ys → bytes_eq xs ys ≡ true
+same xs ys is = (bytes_eq-Decides xs ys).1 is
+
+other : (xs ys : List ℕ) → xs ≢ ys → bytes_eq xs ys ≡ false
+other xs ys apart = at (bytes_eq xs ys) refl
+  where
+    at : (b : Bool) → bytes_eq xs ys ≡ b → bytes_eq xs ys ≡ false
+    at true is = absurd (apart ((bytes_eq-Decides xs ys).0 is))
+    at false is = is
+
+-- a word that is not the name, nor has any of the capacities
+none_of : (name word : List ℕ) → word ≢ name → ((n : ℕ) → 2 ≤ n → n ≤ 32 → word ≢ name ++ (codes ":" ++ decimal n))
+    → capacity_after name word ≡ None
+unfolding capacities
+none_of name word apart each =
+    rw (other word name apart)
+    (find_none (λ n. bytes_eq word (name ++ (codes ":" ++ decimal n))) 2 31 (λ n low high. other _ _ (each n low (omega arith))))
+
+-- a word that is not the name, and has one of the capacities
+one_of : (name word : List ℕ) (k : ℕ) → word ≢ name → 2 ≤ k → k ≤ 32 → word ≡ name ++ (codes ":" ++ decimal k)
+    → capacity_after name word ≡ Some k
+unfolding capacities
+one_of name word k apart low high is =
+    rw (other word name apart)
+    (find_only (λ n. bytes_eq word (name ++ (codes ":" ++ decimal n))) 2 31 k low (omega arith) (same _ _ is) only)
+  where
+    only : (j : ℕ) → 2 ≤ j → j < 2 + 31 → bytes_eq word (name ++ (codes ":" ++ decimal j)) ≡ true → j ≡ k
+    only j from to test =
+        let there : word ≡ name ++ (codes ":" ++ decimal j) = (bytes_eq-Decides word (name ++ (codes ":" ++ decimal j))).0 test in
+        let tails : codes ":" ++ decimal j ≡ codes ":" ++ decimal k =
+        append_cancel_left name (codes ":" ++ decimal j) (codes ":" ++ decimal k) (sym there ∙ is) in
+        let digits : decimal j ≡ decimal k = append_cancel_left (codes ":") (decimal j) (decimal k) tails in
+        decimal_injective j k (omega arith) (omega arith) digits
+
+-- what the test for an empty text says
+pub some_bytes : (xs : List ℕ) → false ≡ (length xs == 0) → xs ≢ []
+some_bytes [] test empty = cc
+some_bytes (x ∷ xs) test empty = cc
+
+-- what follows the name is not empty
+longer : (name word rest : List ℕ) → word ≡ name ++ rest → rest ≢ [] → word ≢ name
+longer name word rest is some alone = some (append_cancel_left name rest [] (sym is ∙ alone ∙ sym (append-nil name)))
+
+-- the name alone
+pub capacity-usual : (name word rest : List ℕ) → word ≡ name ++ rest → rest ≡ [] → Some 16 ≡ capacity_after name word
+capacity-usual name word rest is empty =
+    let whole : word ≡ name = is ∙ ap (λ (t : List ℕ). name ++ t) empty ∙ append-nil name in
+    sym (rw (same word name whole) refl)
+
+-- a word that does not begin with the name
+pub capacity-other_name : (name word : List ℕ) → ((rest : List ℕ) → word ≢ name ++ rest) → None ≡ capacity_after name word
+capacity-other_name name word apart =
+    sym (none_of name word (λ is. apart [] (is ∙ sym (append-nil name))) (λ n low high. apart (codes ":" ++ decimal n)))
+
+-- a word in which something else than a colon follows the name
+pub capacity-no_colon :
+    (name word rest : List ℕ) → word ≡ name ++ rest → rest ≢ [] → ((digits : List ℕ) → rest ≢ codes ":" ++ digits)
+    → None ≡ capacity_after name word
+capacity-no_colon name word rest is some apart =
+    sym (none_of name word (longer name word rest is some)
+    (λ n low high there. apart (decimal n) (append_cancel_left name rest (codes ":" ++ decimal n) (sym is ∙ there))))
+
+-- a word in which a colon follows the name
+pub capacity-given :
+    (name word rest digits : List ℕ) (r : Option ℕ) → word ≡ name ++ rest → rest ≡ codes ":" ++ digits
+    → ((n : ℕ) → 2 ≤ n → n ≤ 32 → (r ≡ Some n) ↔ (digits ≡ decimal n))
+    → IfSome r (λ n. (2 ≤ n) × (n ≤ 32) × (digits ≡ decimal n)) → r ≡ capacity_after name word
+capacity-given name word rest digits None is colon exact some =
+    sym (none_of name word (longer name word rest is (λ empty. cc)) each)
+  where
+    each : (n : ℕ) → 2 ≤ n → n ≤ 32 → word ≢ name ++ (codes ":" ++ decimal n)
+    each n low high there =
+        let tails : codes ":" ++ digits ≡ codes ":" ++ decimal n =
+        append_cancel_left name (codes ":" ++ digits) (codes ":" ++ decimal n)
+        (ap (λ (t : List ℕ). name ++ t) (sym colon) ∙ sym is ∙ there) in
+        let same_digits : digits ≡ decimal n = append_cancel_left (codes ":") digits (decimal n) tails in
+        let found : None ≡ Some n = (exact n low high).1 same_digits in cc
+capacity-given name word rest digits (Some k) is colon exact some =
+    sym (one_of name word k (longer name word rest is (λ empty. cc)) some.0 some.1
+    (is ∙ ap (λ (t : List ℕ). name ++ t) (colon ∙ ap (λ (t : List ℕ). codes ":" ++ t) some.2)))

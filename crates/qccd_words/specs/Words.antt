@@ -1,0 +1,51 @@
+-- What the words of the command line ask for.
+use Rattle.std.specs.Prelude.{ℕ, List, [], ◌∷◌, ◌++◌, Option, None, Some, option_map, find, codes, decimal, if◌then◌else◌}
+use Rattle.std.specs.List.{range_with_len}
+use Rattle.std.specs.Str.{bytes_eq}
+use Rattle.qccd_base.specs.declared.names.Mode.{Mode}
+use Rattle.qccd_base.specs.declared.names.Mode.TheVariants.{IonSwap}
+use Rattle.qccd_machine.specs.declared.place.Preset.{Preset}
+use Rattle.qccd_machine.specs.declared.place.Preset.TheVariants.{Single}
+use Rattle.qccd_words.specs.declared.words.MachineWord.{MachineWord}
+use Rattle.qccd_words.specs.declared.words.MachineWord.TheVariants as word
+use Rattle.qccd_words.specs.declared.words.Command.{Command}
+use Rattle.qccd_words.specs.declared.words.Command.TheVariants as command
+
+-- a machine that is known by name, with the capacity of its traps, or the one of a file
+pub data AskedMachine : Type 0 where
+  OfPreset : (preset : Preset) (capacity : ℕ) → AskedMachine
+  OfFile : (name : List ℕ) → AskedMachine
+
+-- a run on a machine of the circuit in a file
+pub data Asked : Type 0 where
+  AskedRun : (machine : AskedMachine) (circuit : List ℕ) (workers : ℕ) (mode : Mode) → Asked
+
+-- the capacities that a word may give, from 2 to 32
+unfoldable pub capacities : List ℕ
+capacities = range_with_len 2 31
+
+-- the capacity of a preset with this name: 16 where the word is the name alone, and else the one
+-- whose text stands after the name and a colon
+abbrev pub capacity_after : List ℕ → List ℕ → Option ℕ
+capacity_after name word =
+    if bytes_eq word name then Some 16
+    else find (λ capacity. bytes_eq word (name ++ (codes ":" ++ decimal capacity))) capacities
+
+-- the machine that a word names
+abbrev pub machine_of : List ℕ → Option AskedMachine
+machine_of word = option_map (OfPreset Single) (capacity_after (codes "@single") word)
+
+-- what the words ask for
+abbrev pub request_of : List (List ℕ) → Option Asked
+request_of (command ∷ machine ∷ circuit ∷ []) =
+    if bytes_eq command (codes "run") then option_map (λ m. AskedRun m circuit 4 IonSwap) (machine_of machine)
+    else None
+request_of _ = None
+
+-- what a command of the code asks for
+abbrev pub machine_asked : MachineWord → AskedMachine
+machine_asked (word.Preset preset capacity) = OfPreset preset capacity
+machine_asked (word.File name) = OfFile name.now
+
+abbrev pub asked : Command → Asked
+asked (command.Run machine circuit workers mode) = AskedRun (machine_asked machine) circuit.now workers mode

@@ -1,0 +1,87 @@
+//! What the words of the command line ask for.
+
+ghost use Rattle.std.specs.Prelude.{◌≡◌, ℕ, ◌≤◌, ◌↔◌, map, Some, IfSome, option_map, string_bytes, decimal};
+ghost use Rattle.qccd_words.specs.Words.{asked, machine_asked, capacity_after, machine_of, request_of};
+
+use qccd_base::{Mode, read_number};
+use qccd_machine::Preset;
+
+/// How many ions a trap holds at most, where the machine's word does not say.
+const USUAL_CAPACITY: u8 = 16;
+
+/// How many workers run a program, where the words do not say.
+const USUAL_WORKERS: u8 = 4;
+
+/// A machine, as a word names it.
+#[derive(Clone, Copy, Debug, PartialEq, Eq, Hash)]
+pub enum MachineWord<'a> {
+    /// A machine that is known by name, and how many ions each of its traps holds at most: a number
+    /// from 2 to 32.
+    Preset(Preset, u8),
+    /// The name of a file that describes the machine.
+    File(&'a str),
+}
+
+/// What the words ask for.
+#[derive(Clone, Copy, Debug, PartialEq, Eq, Hash)]
+pub enum Command<'a> {
+    /// Compile a circuit for a machine, and run the program.
+    Run {
+        machine: MachineWord<'a>,
+        /// The name of the circuit's file.
+        circuit: &'a str,
+        /// How many workers run the program.
+        workers: u8,
+        mode: Mode,
+    },
+}
+
+/// What the words ask for, or `None` where they are of no form that is known. The words are those
+/// after the program's own name. It takes no memory.
+///
+/// For now one form is known, `run MACHINE CIRCUIT`. The machine is `@single`, or `@single:C` with a
+/// number C from 2 to 32 that has no sign and no leading zero. The circuit is any word as it stands,
+/// an empty one too.
+pub fn request(words: &[String]) -> Option<Command<'_>>
+    ensures { option_map asked result ≡ request_of (map string_bytes words.now) }
+{
+    match words {
+        [command, machine, circuit] if command.as_str() == "run" => Some(Command::Run {
+            machine: machine_word(machine.as_str())?,
+            circuit: circuit.as_str(),
+            workers: USUAL_WORKERS,
+            mode: Mode::IonSwap,
+        }),
+        _ => None,
+    }
+}
+
+// The machine that the word names.
+fn machine_word(word: &str) -> Option<MachineWord<'_>>
+    ensures { option_map machine_asked result ≡ machine_of word.now }
+{
+    let capacity = capacity_word(b"@single", word.as_bytes())?;
+    Some(MachineWord::Preset(Preset::Single, capacity))
+}
+
+// The capacity that stands after the preset's name and a colon, or the usual one after the name alone.
+fn capacity_word(name: &[u8], word: &[u8]) -> Option<u8>
+    ensures { result ≡ capacity_after name.now word.now }
+{
+    let rest = word.strip_prefix(name)?;
+    if rest.is_empty() {
+        return Some(USUAL_CAPACITY);
+    }
+    capacity(rest.strip_prefix(b":")?)
+}
+
+// The capacity whose decimal text this is.
+fn capacity(digits: &[u8]) -> Option<u8>
+    ensures exact { (n : ℕ) → 2 ≤ n → n ≤ 32 → (result ≡ Some n) ↔ (digits.now ≡ decimal n) }
+    ensures some { IfSome result (λ n. (2 ≤ n) × (n ≤ 32) × (digits.now ≡ decimal n)) }
+{
+    match read_number(digits)? {
+        number @ 2..=32 => Some(number as u8),
+        _ => None,
+    }
+}
