@@ -81,7 +81,7 @@ all_meet op (e ∷ es) h all = rw (any_common (touches e.op) (touches op) (Trap 
 
 abbrev pub steps : MachineData → ℕ → ℕ → List ItemData → List Timed
 steps m k start [] = []
-steps m k start (d ∷ ds) = timed_item m k start d ∷ steps m (k + 1) (start + item_time m d) ds
+steps m k start (d ∷ ds) = timed_item m.times k start d ∷ steps m (k + 1) (start + item_time m.times d) ds
 
 -- the items run one after another
 timed_on : (m : MachineData) (k start : ℕ) (ds : List ItemData) (earlier : List Timed) → AllByRecursion (λ e. InTrap e.op) earlier → greatest (map (λ e. e.finish) earlier) ≡ start
@@ -89,9 +89,9 @@ timed_on : (m : MachineData) (k start : ℕ) (ds : List ItemData) (earlier : Lis
 timed_on m k start [] earlier all is = refl
 timed_on m k start (d ∷ ds) earlier all is =
     let begins : start_after earlier (op_of (k, d)) ≡ start = rw (all_meet (op_of (k, d)) earlier (in_trap (k, d)) all) is in
-    let later : max (start + item_time m d) start ≡ start + item_time m d = omega arith in
-    rw (begins) (ap (λ (rest : List Timed). timed_item m k start d ∷ rest)
-    (timed_on m (k + 1) (start + item_time m d) ds (timed_item m k start d ∷ earlier) (in_trap (k, d), all) (rw is later)))
+    let later : max (start + item_time m.times d) start ≡ start + item_time m.times d = omega arith in
+    rw (begins) (ap (λ (rest : List Timed). timed_item m.times k start d ∷ rest)
+    (timed_on m (k + 1) (start + item_time m.times d) ds (timed_item m.times k start d ∷ earlier) (in_trap (k, d), all) (rw is later)))
 
 pub timed-items : (m : MachineData) (ds : List ItemData) → timed m (map op_of (enumerate_from 0 ds)) ≡ steps m 0 0 ds
 timed-items m ds = timed_on m 0 0 ds [] tt refl
@@ -104,26 +104,26 @@ in_order : (m : MachineData) (a k start : ℕ) (ds : List ItemData) → by_start
 in_order m a k start [] = refl
 in_order m a k start (d ∷ []) = refl
 in_order m a k start (d ∷ e ∷ es) =
-    let rest = in_order m (a + 1) (k + 1) (start + item_time m d) (e ∷ es) in
-    rw (rest, ltb-not (start + item_time m d) start (omega arith)) refl
+    let rest = in_order m (a + 1) (k + 1) (start + item_time m.times d) (e ∷ es) in
+    rw (rest, ltb-not (start + item_time m.times d) start (omega arith)) refl
 
-lines_on : (m : MachineData) (k start : ℕ) (ds : List ItemData) → flat_map op_line (enumerate_from k (steps m k start ds)) ≡ op_lines m k start ds
+lines_on : (m : MachineData) (k start : ℕ) (ds : List ItemData) → flat_map op_line (enumerate_from k (steps m k start ds)) ≡ op_lines m.times k start ds
 lines_on m k start [] = refl
-lines_on m k start (d ∷ ds) = ap (λ (rest : List ℕ). op_line (k, timed_item m k start d) ++ rest) (lines_on m (k + 1) (start + item_time m d) ds)
+lines_on m k start (d ∷ ds) = ap (λ (rest : List ℕ). op_line (k, timed_item m.times k start d) ++ rest) (lines_on m (k + 1) (start + item_time m.times d) ds)
 
 -- the operation lines of a circuit in one trap
-pub lines-items : (m : MachineData) (ds : List ItemData) → flat_map op_line (by_start (enumerate_from 0 (timed m (map op_of (enumerate_from 0 ds))))) ≡ op_lines m 0 0 ds
+pub lines-items : (m : MachineData) (ds : List ItemData) → flat_map op_line (by_start (enumerate_from 0 (timed m (map op_of (enumerate_from 0 ds))))) ≡ op_lines m.times 0 0 ds
 lines-items m ds = rw (timed-items m ds, in_order m 0 0 0 ds) (lines_on m 0 0 ds)
 
 pub listed-items : (m : MachineData) (ds : List ItemData) → by_start (enumerate_from 0 (timed m (map op_of (enumerate_from 0 ds)))) ≡ enumerate_from 0 (steps m 0 0 ds)
 listed-items m ds = rw (timed-items m ds, in_order m 0 0 0 ds) refl
 
-last_on : (m : MachineData) (k start : ℕ) (ds : List ItemData) → max start (greatest (map (λ e. e.finish) (steps m k start ds))) ≡ end_time m start ds
+last_on : (m : MachineData) (k start : ℕ) (ds : List ItemData) → max start (greatest (map (λ e. e.finish) (steps m k start ds))) ≡ end_time m.times start ds
 last_on m k start [] = omega arith
 last_on m k start (d ∷ ds) =
-    let rest = last_on m (k + 1) (start + item_time m d) ds in
+    let rest = last_on m (k + 1) (start + item_time m.times d) ds in
     omega (arith, rest)
 
 -- the last item finishes last
-pub last-items : (m : MachineData) (ds : List ItemData) → greatest (map (λ e. e.finish) (timed m (map op_of (enumerate_from 0 ds)))) ≡ end_time m 0 ds
+pub last-items : (m : MachineData) (ds : List ItemData) → greatest (map (λ e. e.finish) (timed m (map op_of (enumerate_from 0 ds)))) ≡ end_time m.times 0 ds
 last-items m ds = rw (timed-items m ds) (omega (arith, last_on m 0 0 ds))

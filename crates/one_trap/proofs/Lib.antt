@@ -7,3 +7,6 @@ pub mod Clock
 pub mod Text
 pub mod Listed
 pub mod Pieces
+pub mod Three
+pub mod GateLines
+pub mod ItemTime

@@ -18,7 +18,7 @@ use Rattle.one_trap.proofs.Implements.{keeps-one_trap}
 
 ops_of_steps : (m : MachineData) (a k start : ℕ) (ds : List ItemData) → map (λ (e : ℕ × Timed). e.1.op) (enumerate_from a (steps m k start ds)) ≡ map op_of (enumerate_from k ds)
 ops_of_steps m a k start [] = refl
-ops_of_steps m a k start (d ∷ ds) = ap (λ (rest : List OpKind). op_of (k, d) ∷ rest) (ops_of_steps m (a + 1) (k + 1) (start + item_time m d) ds)
+ops_of_steps m a k start (d ∷ ds) = ap (λ (rest : List OpKind). op_of (k, d) ∷ rest) (ops_of_steps m (a + 1) (k + 1) (start + item_time m.times d) ds)
 
 listed-one_trap : (c : CircuitData) (capacity : ℕ) → listed_ops (in_one_trap c (single capacity)) ≡ map op_of (enumerate_from 0 c.items)
 listed-one_trap c capacity = rw (listed-items (single capacity) c.items) (ops_of_steps (single capacity) 0 0 0 c.items)

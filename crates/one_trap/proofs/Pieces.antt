@@ -6,6 +6,7 @@ use Rattle.std.specs.Fmt.{digits}
 use Rattle.std.proofs.lemmas.List.Elements.{recursion_from_All}
 use Rattle.qccd_base.specs.declared.names.Qubit.{Qubit}
 use Rattle.qccd_base.specs.declared.names.Bit.{Bit}
+use Rattle.qccd_base.specs.declared.times.Times.{Times}
 use Rattle.qccd_circuit.specs.Item.{ItemData}
 use Rattle.qccd_circuit.specs.Circuit.{CircuitData}
 use Rattle.qccd_machine.specs.Machine.{MachineData}
@@ -47,7 +48,7 @@ abbrev pub line_with : ℕ → ℕ → ℕ → ItemData → List (List ℕ) → 
 line_with k start finish d angles bits zero_text operands =
     line (decimal k ++ next_word (decimal start) ++ next_word (decimal finish)
     ++ next_word (codes "item " ++ decimal k ++ next_word (d.name ++ angles_text angles) ++ next_word (codes "T" ++ zero_text)
-        ++ operands ++ flat_map (λ b. next_word (bit_text b)) bits))
+    ++ operands ++ flat_map (λ b. next_word (bit_text b)) bits))
 
 line-plain : (k start finish : ℕ) (d : ItemData) → IsPlainItem d
     → line_with k start finish d d.angles d.bits (decimal 0) (flat_map (λ operand. next_word (operand_text operand)) (zip d.qubits (map (λ q. q.0) d.qubits)))
@@ -58,16 +59,16 @@ line-plain k start finish d plain =
     ∙ ap (λ (text : List ℕ). line_with k start finish d [] [] text (flat_map (λ operand. next_word (operand_text operand)) (zip d.qubits (map (λ q. q.0) d.qubits)))) decimal_zero
     ∙ ap (λ (text : List ℕ). line_with k start finish d [] [] (codes "0") text) (operands-words d.qubits)
 
-op_line-gate : (m : MachineData) (k start : ℕ) (d : ItemData) → IsPlainItem d → op_line (k, timed_item m k start d) ≡ gate_line k start (start + item_time m d) d
-op_line-gate m k start d plain =
-    line-plain k start (start + item_time m d) d plain
-    ∙ op_shape (decimal k) (codes " ") (decimal start) (decimal (start + item_time m d)) (codes "item ") d.name (codes "T0") (flat_map operand_word d.qubits) (codes "\n")
+op_line-gate : (times : Times) (k start : ℕ) (d : ItemData) → IsPlainItem d → op_line (k, timed_item times k start d) ≡ gate_line k start (start + item_time times d) d
+op_line-gate times k start d plain =
+    line-plain k start (start + item_time times d) d plain
+    ∙ op_shape (decimal k) (codes " ") (decimal start) (decimal (start + item_time times d)) (codes "item ") d.name (codes "T0") (flat_map operand_word d.qubits) (codes "\n")
 
-op_lines-gates : (m : MachineData) (k start : ℕ) (ds : List ItemData) → AllByRecursion IsPlainItem ds → op_lines m k start ds ≡ gate_lines m k start ds
-op_lines-gates m k start [] plain = refl
-op_lines-gates m k start (d ∷ ds) plain =
-    ap (λ (text : List ℕ). text ++ op_lines m (k + 1) (start + item_time m d) ds) (op_line-gate m k start d plain.0)
-    ∙ ap (λ (text : List ℕ). gate_line k start (start + item_time m d) d ++ text) (op_lines-gates m (k + 1) (start + item_time m d) ds plain.1)
+op_lines-gates : (times : Times) (k start : ℕ) (ds : List ItemData) → AllByRecursion IsPlainItem ds → op_lines times k start ds ≡ gate_lines times k start ds
+op_lines-gates times k start [] plain = refl
+op_lines-gates times k start (d ∷ ds) plain =
+    ap (λ (text : List ℕ). text ++ op_lines times (k + 1) (start + item_time times d) ds) (op_line-gate times k start d plain.0)
+    ∙ ap (λ (text : List ℕ). gate_line k start (start + item_time times d) d ++ text) (op_lines-gates times (k + 1) (start + item_time times d) ds plain.1)
 
 pair_shape : (a b c d : List ℕ) → (a ++ b) ++ (c ++ d) ≡ a ++ ((b ++ c) ++ (d ++ []))
 pair_shape a b c d = simp (append_assoc, append_nil)
@@ -98,14 +99,14 @@ in_parts head lines pairs closing n count = head ++ line (codes "start T0" ++ st
 
 text-sent : (c : CircuitData) (m : MachineData) → IsPlain c → one_trap_text c m ≡ sent_text c m
 text-sent c m plain =
-    let lines = op_lines m 0 0 c.items in
-    let finish = line (labelled (codes "finish ") (end_time m 0 c.items)) in
+    let lines = op_lines m.times 0 0 c.items in
+    let finish = line (labelled (codes "finish ") (end_time m.times 0 c.items)) in
     closing_shape (line (codes "QCCD report 1") ++ size_line (in_one_trap c m) ++ line (codes "start T0" ++ start_words c.qubits) ++ line (labelled (codes "ops ") (length c.items)) ++ lines)
-        (codes "end T0 heat 0" ++ end_words c.qubits) (codes "\n") (gate_counts c.items) finish
+    (codes "end T0 heat 0" ++ end_words c.qubits) (codes "\n") (gate_counts c.items) finish
     ∙ ap (λ (head : List ℕ). in_parts head lines (end_words c.qubits) ((codes "\n" ++ gate_counts c.items) ++ finish) c.qubits (length c.items)) (sizes-line c m)
-    ∙ ap (λ (text : List ℕ). in_parts (sizes c m) text (end_words c.qubits) ((codes "\n" ++ gate_counts c.items) ++ finish) c.qubits (length c.items)) (op_lines-gates m 0 0 c.items (recursion_from_All _ _ plain))
-    ∙ ap (λ (pairs : List ℕ). in_parts (sizes c m) (gate_lines m 0 0 c.items) pairs ((codes "\n" ++ gate_counts c.items) ++ finish) c.qubits (length c.items)) (end_words-pairs 0 c.qubits)
-    ∙ ap (λ (closing : List ℕ). in_parts (sizes c m) (gate_lines m 0 0 c.items) (flat_map pair_word (range_with_len 0 c.qubits)) closing c.qubits (length c.items)) (totals-lines c.items (end_time m 0 c.items))
+    ∙ ap (λ (text : List ℕ). in_parts (sizes c m) text (end_words c.qubits) ((codes "\n" ++ gate_counts c.items) ++ finish) c.qubits (length c.items)) (op_lines-gates m.times 0 0 c.items (recursion_from_All _ _ plain))
+    ∙ ap (λ (pairs : List ℕ). in_parts (sizes c m) (gate_lines m.times 0 0 c.items) pairs ((codes "\n" ++ gate_counts c.items) ++ finish) c.qubits (length c.items)) (end_words-pairs 0 c.qubits)
+    ∙ ap (λ (closing : List ℕ). in_parts (sizes c m) (gate_lines m.times 0 0 c.items) (flat_map pair_word (range_with_len 0 c.qubits)) closing c.qubits (length c.items)) (totals-lines c.items (end_time m.times 0 c.items))
 
 -- the report of a circuit of gates in one trap is what is sent
 pub report-sent : (c : CircuitData) (capacity : ℕ) → IsPlain c → report_text (in_one_trap c (single capacity)) ≡ sent_text c (single capacity)

@@ -2,6 +2,7 @@
 use Rattle.std.specs.Prelude.{ℕ, ◌+◌, ◌==◌, List, [], ◌∷◌, ◌++◌, length, flat_map, count_by, codes, decimal}
 use Rattle.std.specs.List.{range_with_len, concat}
 use Rattle.qccd_base.specs.declared.names.Qubit.{Qubit}
+use Rattle.qccd_base.specs.declared.times.Times.{Times}
 use Rattle.qccd_circuit.specs.Item.{ItemData}
 use Rattle.qccd_circuit.specs.Circuit.{CircuitData}
 use Rattle.qccd_machine.specs.Machine.{MachineData}
@@ -12,22 +13,22 @@ use Rattle.tracer.specs.Report.{line, labelled, size_line, op_line, item_column}
 use Rattle.one_trap.specs.Program.{op_of, positions_of, in_one_trap}
 
 -- how long an item takes
-abbrev pub item_time : MachineData → ItemData → ℕ
-item_time m item = duration_of m.times (item_work item.kind (positions_of item))
+abbrev pub item_time : Times → ItemData → ℕ
+item_time times item = duration_of times (item_work item.kind (positions_of item))
 
 -- item k, when it starts at this time
-abbrev pub timed_item : MachineData → ℕ → ℕ → ItemData → Timed
-timed_item m k start item = record { op = op_of (k, item); start = start; finish = start + item_time m item }
+abbrev pub timed_item : Times → ℕ → ℕ → ItemData → Timed
+timed_item times k start item = record { op = op_of (k, item); start = start; finish = start + item_time times item }
 
 -- the lines of the items, from number k and this time on
-abbrev pub op_lines : MachineData → ℕ → ℕ → List ItemData → List ℕ
-op_lines m k start [] = []
-op_lines m k start (item ∷ items) = op_line (k, timed_item m k start item) ++ op_lines m (k + 1) (start + item_time m item) items
+abbrev pub op_lines : Times → ℕ → ℕ → List ItemData → List ℕ
+op_lines times k start [] = []
+op_lines times k start (item ∷ items) = op_line (k, timed_item times k start item) ++ op_lines times (k + 1) (start + item_time times item) items
 
 -- when the items are done, from this time on
-abbrev pub end_time : MachineData → ℕ → List ItemData → ℕ
-end_time m start [] = start
-end_time m start (item ∷ items) = end_time m (start + item_time m item) items
+abbrev pub end_time : Times → ℕ → List ItemData → ℕ
+end_time times start [] = start
+end_time times start (item ∷ items) = end_time times (start + item_time times item) items
 
 abbrev pub start_words : ℕ → List ℕ
 start_words n = flat_map (λ i. next_word (decimal i)) (range_with_len 0 n)
@@ -52,10 +53,10 @@ one_trap_text c m =
     ++ size_line (in_one_trap c m)
     ++ line (codes "start T0" ++ start_words c.qubits)
     ++ line (labelled (codes "ops ") (length c.items))
-    ++ op_lines m 0 0 c.items
+    ++ op_lines m.times 0 0 c.items
     ++ line (codes "end T0 heat 0" ++ end_words c.qubits)
     ++ gate_counts c.items
-    ++ line (labelled (codes "finish ") (end_time m 0 c.items))
+    ++ line (labelled (codes "finish ") (end_time m.times 0 c.items))
 
 -- a qubit at its position
 abbrev pub operand_word : Qubit → List ℕ
@@ -70,9 +71,9 @@ abbrev pub gate_line : ℕ → ℕ → ℕ → ItemData → List ℕ
 gate_line k start finish item = gate_head k start finish item ++ flat_map operand_word item.qubits ++ codes "\n"
 
 -- the lines of gates, from number k and this time on
-abbrev pub gate_lines : MachineData → ℕ → ℕ → List ItemData → List ℕ
-gate_lines m k start [] = []
-gate_lines m k start (item ∷ items) = gate_line k start (start + item_time m item) item ++ gate_lines m (k + 1) (start + item_time m item) items
+abbrev pub gate_lines : Times → ℕ → ℕ → List ItemData → List ℕ
+gate_lines times k start [] = []
+gate_lines times k start (item ∷ items) = gate_line k start (start + item_time times item) item ++ gate_lines times (k + 1) (start + item_time times item) items
 
 abbrev pub sizes : CircuitData → MachineData → List ℕ
 sizes c m = concat (codes "QCCD report 1\nqubits " ∷ decimal c.qubits ∷ codes " bits " ∷ decimal c.bits ∷ codes " traps " ∷ decimal (length m.capacities)
@@ -92,8 +93,8 @@ totals ones twos finish = concat (codes "\ncounts split 0 merge 0 move 0 enter 0
     ∷ codes " measure 0 reset 0 fence 0\nfinish " ∷ decimal finish ∷ codes "\n" ∷ [])
 
 abbrev pub closing_text : CircuitData → MachineData → List ℕ
-closing_text c m = codes "end T0 heat 0" ++ flat_map pair_word (range_with_len 0 c.qubits) ++ totals (gates_in 7 c.items) (gates_in 8 c.items) (end_time m 0 c.items)
+closing_text c m = codes "end T0 heat 0" ++ flat_map pair_word (range_with_len 0 c.qubits) ++ totals (gates_in 7 c.items) (gates_in 8 c.items) (end_time m.times 0 c.items)
 
 -- the report in the pieces in which it is sent
 abbrev pub sent_text : CircuitData → MachineData → List ℕ
-sent_text c m = opening_text c m ++ gate_lines m 0 0 c.items ++ closing_text c m
+sent_text c m = opening_text c m ++ gate_lines m.times 0 0 c.items ++ closing_text c m

@@ -1,2 +1,3 @@
-//! The transport program of a circuit on a machine of one trap, and its report.
 #![tactic(auto)]
+
+mod gates;

@@ -1,6 +1,7 @@
 -- Small items that the worked examples speak of.
 use Rattle.std.specs.Prelude.{ℕ, List, [], ◌∷◌, None, Some, Option, codes}
-use Rattle.qccd_circuit.specs.declared.kinds.ItemKind.TheVariants.{Gate1, Gate2, Measure}
+use Rattle.qccd_base.specs.declared.names.Qubit.{Qubit}
+use Rattle.qccd_circuit.specs.declared.kinds.ItemKind.TheVariants.{Gate1, Gate2, Measure, Reset, Barrier}
 use Rattle.qccd_circuit.specs.declared.kinds.Cond.{Cond}
 use Rattle.qccd_circuit.specs.Item.{ItemData}
 
@@ -37,9 +38,35 @@ measure_into q b = record {
   cond = None;
 }
 
--- an h under the condition that so many bits from the first have the value 1
+-- a reset of a qubit
+abbrev pub reset_of : ℕ → ItemData
+reset_of q = record {
+  kind = Reset;
+  name = codes "reset";
+  angles = [];
+  qubits = record { 0 = q } ∷ [];
+  bits = [];
+  cond = None;
+}
+
+-- a barrier over qubits
+abbrev pub barrier_over : List Qubit → ItemData
+barrier_over qubits = record {
+  kind = Barrier;
+  name = codes "barrier";
+  angles = [];
+  qubits = qubits;
+  bits = [];
+  cond = None;
+}
+
+-- the condition that so many bits from the first have the value 1
+abbrev pub bits_are_one : ℕ → ℕ → Option Cond
+bits_are_one first count = Some (record { first = record { 0 = first }; count = count; value = 1 })
+
+-- an h under such a condition
 abbrev pub h_under : ℕ → ℕ → ℕ → ItemData
-h_under q first count = record (h_on q) { cond = Some (record { first = record { 0 = first }; count = count; value = 1 }) }
+h_under q first count = record (h_on q) { cond = bits_are_one first count }
 
 -- two gates on two qubits, and then one on both
 abbrev pub three_gates : List ItemData

@@ -15,3 +15,6 @@ pub use items::Item;
 pub use kinds::{Cond, ItemKind};
 pub use sharing::shares;
 pub use texts::{Angle, AngleList, Name};
+
+#[cfg(test)]
+mod tests;

@@ -1,5 +1,5 @@
 -- What a write does to the bytes that a sink has taken, and to the references that it keeps.
-use Rattle.std.specs.Prelude.{◌≡◌, ℕ, ◌-◌, ◌^◌, ◌<◌, ◌≤◌, List, [], ◌++◌, length, take, Option, None, Some, option_map}
+use Rattle.std.specs.Prelude.{◌≡◌, ℕ, ◌<◌, ◌≤◌, List, [], ◌++◌, length, take, Option, None, Some, option_map}
 use Rattle.std.specs.Borrow.{GName}
 
 -- the bytes taken so far, and then more; nothing is told where nothing was

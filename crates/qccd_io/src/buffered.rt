@@ -15,7 +15,7 @@ const ROOM: usize = 65536;
 #[derive(Drop)]
 pub struct Buffer {
     bytes: Vec<u8>,
-    // How many of them went already, from the first on: all only where there is none.
+    // How many of the first of them went already. Once all went, none is kept.
     gone: usize,
 }
 
