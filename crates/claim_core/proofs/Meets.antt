@@ -1,18 +1,17 @@
 -- In a run each item meets its operands.
-use Rattle.std.proofs.Common.{◌≡◌, ℕ, zero, suc, Bool, true, false, cond, List, [], ◌∷◌, take, refl, sym, Option, Some, None}
-use Rattle.std.specs.Prelude.{slice_get, IsTrue, if◌then◌else◌}
+use Rattle.std.proofs.Common.{◌≡◌, ℕ, zero, suc, Bool, true, false, List, [], ◌∷◌, take, refl, Some, None}
+use Rattle.std.specs.Prelude.{slice_get, IsTrue}
 use Rattle.qccd_base.specs.declared.names.TrapId.{TrapId}
 use Rattle.qccd_circuit.specs.Item.{ItemData}
 use Rattle.qccd_machine.specs.Machine.{MachineData}
 use Rattle.op_table.specs.declared.kinds.OpKind.{OpKind}
 use Rattle.op_table.specs.declared.kinds.OpKind.TheVariants.{Item}
-use Rattle.op_table.specs.declared.kinds.Why.{Why}
 use Rattle.op_table.specs.declared.kinds.Why.TheVariants.{NoPlace, Position, WrongQubit}
 use Rattle.op_table.specs.State.{State}
 use Rattle.op_table.specs.Step.{why, effect, carries, first_cause}
 use Rattle.op_table.specs.Run.{IsRun, after}
-use Rattle.claim_core.specs.Program.{ProgramData, opening_of, before}
-use Rattle.claim_core.specs.Implements.{Implements, MeetsOperands}
+use Rattle.claim_core.specs.Program.{ProgramData, opening_of}
+use Rattle.claim_core.specs.Implements.{MeetsOperands}
 
 -- where none of three needs fails, the third is met
 third_need : (a b c : Bool) → first_cause ((NoPlace, a) ∷ (Position, b) ∷ (WrongQubit, c) ∷ []) ≡ None → c ≡ true

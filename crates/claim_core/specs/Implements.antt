@@ -1,5 +1,5 @@
 -- When a transport program implements a circuit.
-use Rattle.std.specs.Prelude.{◌≡◌, ℕ, List, length, map, All, Some, slice_get, IsTrue}
+use Rattle.std.specs.Prelude.{◌≡◌, ℕ, List, map, All, Some, slice_get, IsTrue}
 use Rattle.qccd_base.specs.declared.names.TrapId.{TrapId}
 use Rattle.qccd_circuit.specs.Item.{ItemData}
 use Rattle.qccd_circuit.specs.Order.{SameOrder}

@@ -1,5 +1,5 @@
 -- One running clock times the items of one trap, and lists them in their order.
-use Rattle.std.proofs.Common.{◌≡◌, ◌≢◌, ℕ, zero, suc, ◌+◌, ◌<◌, ◌≤◌, max, Bool, true, false, cond, ◌&&◌, ◌||◌, eqb, ltb, List, [], ◌∷◌, ◌++◌, length, map, ◌⊎◌, refl, sym, ◌∙◌, ap, inl, inr, arith}
+use Rattle.std.proofs.Common.{◌≡◌, ℕ, ◌+◌, ◌≤◌, max, Bool, true, false, cond, ◌&&◌, ◌||◌, eqb, ltb, List, [], ◌∷◌, ◌++◌, map, ◌⊎◌, refl, sym, ap, inl, inr, arith}
 use Rattle.std.specs.Prelude.{filter, flat_map}
 use Rattle.std.specs.List.{enumerate_from, list_any, AllByRecursion}
 use Rattle.std.proofs.lemmas.Bool.Decides.{nat_tests}
@@ -12,11 +12,10 @@ use Rattle.qccd_machine.specs.Machine.{MachineData}
 use Rattle.op_table.specs.declared.kinds.OpKind.{OpKind}
 use Rattle.op_table.specs.Touch.{touches, meets}
 use Rattle.op_table.specs.Clock.{Timed, timed, timed_from, start_after}
-use Rattle.tracer.specs.TimeOrder.{by_start, put_by_start}
+use Rattle.tracer.specs.TimeOrder.{by_start}
 use Rattle.tracer.specs.Report.{op_line}
 use Rattle.one_trap.specs.Program.{op_of, the_trap}
 use Rattle.one_trap.specs.Lines.{item_time, timed_item, op_lines, end_time}
-use Rattle.one_trap.proofs.Ranges.{eqb-apart}
 use Rattle.one_trap.proofs.Row.{eqb-same}
 
 both_true : (a b : Bool) → (a && b) ≡ true → (a ≡ true) × (b ≡ true)

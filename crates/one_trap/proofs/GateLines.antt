@@ -1,9 +1,7 @@
 -- The lines of gates so far, and with one more.
-use Rattle.std.proofs.Common.{◌≡◌, ℕ, zero, suc, ◌+◌, ◌*◌, ◌^◌, ◌<◌, ◌≤◌, List, [], ◌∷◌, ◌++◌, length, take, drop, get_or, refl, sym, ◌∙◌, ap, arith, append_assoc, drop-cons, length-take}
-use Rattle.std.specs.Prelude.{All, codes}
+use Rattle.std.proofs.Common.{◌≡◌, ℕ, suc, ◌+◌, ◌<◌, List, [], ◌∷◌, ◌++◌, length, take, drop, get_or, refl, sym, ◌∙◌, ap, arith, append_assoc, length-take}
 use Rattle.std.proofs.lemmas.List.{take_more, take-append-drop}
 use Rattle.qccd_base.specs.declared.times.Times.{Times}
-use Rattle.qccd_base.specs.declared.names.Qubit.{Qubit}
 use Rattle.qccd_circuit.specs.Item.{ItemData}
 use Rattle.one_trap.specs.Lines.{gate_line, gate_lines, end_time, item_time}
 

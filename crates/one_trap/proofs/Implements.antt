@@ -1,6 +1,6 @@
 -- The program of a circuit in one trap implements it, safely.
-use Rattle.std.proofs.Common.{◌≡◌, ◌≢◌, ℕ, zero, suc, ◌+◌, ◌<◌, ◌≤◌, Bool, true, false, cond, eqb, ltb, List, [], ◌∷◌, ◌++◌, length, map, take, refl, sym, ◌∙◌, ap, subst, arith, get_or}
-use Rattle.std.specs.Prelude.{count_by, slice_get, All, Some, flat_map, IsTrue}
+use Rattle.std.proofs.Common.{◌≡◌, ◌≢◌, ℕ, zero, suc, ◌+◌, ◌≤◌, cond, eqb, ltb, List, [], ◌∷◌, ◌++◌, length, map, refl, sym, ◌∙◌, ap, subst, arith, get_or}
+use Rattle.std.specs.Prelude.{count_by, flat_map}
 use Rattle.std.specs.List.{range_with_len, enumerate_from, AllByRecursion}
 use Rattle.std.proofs.lemmas.List.{length-map}
 use Rattle.std.proofs.lemmas.List.Elements.{recursion_from_All, All-from_recursion}
@@ -8,14 +8,11 @@ use Rattle.std.proofs.lemmas.List.FromFn.{length-map-range_with_len}
 use Rattle.qccd_base.specs.declared.names.Ion.{Ion}
 use Rattle.qccd_circuit.specs.declared.kinds.ItemKind.TheVariants.{Barrier}
 use Rattle.qccd_circuit.specs.Item.{ItemData}
-use Rattle.qccd_circuit.specs.Circuit.{CircuitData, IsWithin, IsCircuit}
-use Rattle.qccd_machine.specs.Machine.{MachineData}
+use Rattle.qccd_circuit.specs.Circuit.{CircuitData, IsCircuit}
 use Rattle.qccd_machine.specs.Preset.{single}
-use Rattle.op_table.specs.declared.kinds.OpKind.{OpKind}
 use Rattle.op_table.specs.Op.{IsOp}
 use Rattle.op_table.specs.State.{State, IsSafe}
-use Rattle.op_table.specs.Run.{IsRun, items_in}
-use Rattle.claim_core.specs.Program.{ProgramData, IsStart, opening_of, before}
+use Rattle.claim_core.specs.Program.{IsStart, opening_of, before}
 use Rattle.claim_core.specs.Implements.{Implements, KeepsBounds}
 use Rattle.one_trap.specs.Program.{op_of, ion, in_one_trap}
 use Rattle.one_trap.proofs.Ranges.{count_by-map}

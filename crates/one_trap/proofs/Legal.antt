@@ -1,21 +1,19 @@
 -- Every item is legal in the row, and leaves it as it is.
-use Rattle.std.proofs.Common.{◌≡◌, ◌≢◌, ℕ, zero, suc, ◌+◌, ◌<◌, ◌≤◌, Bool, true, false, cond, ◌&&◌, eqb, ltb, List, [], ◌∷◌, length, map, take, refl, sym, ◌∙◌, ap, arith, Option, Some, None}
-use Rattle.std.specs.Prelude.{filter_map, slice_get}
-use Rattle.std.specs.List.{list_all, range_with_len, enumerate_from, AllByRecursion}
+use Rattle.std.proofs.Common.{◌≡◌, ℕ, ◌+◌, ◌<◌, true, ltb, List, [], ◌∷◌, map, take, refl, ap, None}
+use Rattle.std.specs.List.{list_all, enumerate_from, AllByRecursion}
 use Rattle.std.proofs.lemmas.Bool.{lt-ltb}
 use Rattle.std.proofs.lemmas.List.{take-map}
 use Rattle.std.proofs.lemmas.List.Elements.{recursion_from_All}
 use Rattle.qccd_base.specs.declared.names.Qubit.{Qubit}
 use Rattle.qccd_base.specs.declared.names.Bit.{Bit}
 use Rattle.qccd_circuit.specs.Item.{ItemData, bits_of}
-use Rattle.qccd_circuit.specs.Circuit.{CircuitData, IsWithin, IsCircuit}
+use Rattle.qccd_circuit.specs.Circuit.{IsWithin}
 use Rattle.qccd_machine.specs.Machine.{MachineData}
-use Rattle.op_table.specs.declared.kinds.OpKind.{OpKind}
-use Rattle.op_table.specs.State.{State, ions_in, qubit_at}
-use Rattle.op_table.specs.Step.{why, effect, first_cause, carries, has_bits, is_qubit}
-use Rattle.op_table.specs.Run.{IsRun, after, item_in, items_in}
-use Rattle.one_trap.specs.Program.{op_of, positions_of, in_one_trap}
-use Rattle.one_trap.proofs.Row.{still, row, ions_in-row, qubit_at-row, eqb-same}
+use Rattle.op_table.specs.State.{State, ions_in}
+use Rattle.op_table.specs.Step.{why, carries}
+use Rattle.op_table.specs.Run.{IsRun, after, items_in}
+use Rattle.one_trap.specs.Program.{op_of, positions_of}
+use Rattle.one_trap.proofs.Row.{still, ions_in-row, qubit_at-row, eqb-same}
 
 -- the items keep to these numbers of qubits and bits
 abbrev pub Keep : ℕ → ℕ → List ItemData → Type 0

@@ -1,15 +1,15 @@
 -- In one trap the listed order is the program's own.
-use Rattle.std.proofs.Common.{◌≡◌, ℕ, ◌+◌, ◌≤◌, List, [], ◌∷◌, map, take, refl, sym, ◌∙◌, ap, subst}
+use Rattle.std.proofs.Common.{◌≡◌, ℕ, ◌+◌, ◌≤◌, List, [], ◌∷◌, map, take, refl, sym, ap, subst}
 use Rattle.std.specs.List.{enumerate_from}
 use Rattle.qccd_circuit.specs.Item.{ItemData}
 use Rattle.qccd_circuit.specs.Circuit.{CircuitData}
 use Rattle.qccd_machine.specs.Machine.{MachineData}
 use Rattle.qccd_machine.specs.Preset.{single}
 use Rattle.op_table.specs.declared.kinds.OpKind.{OpKind}
-use Rattle.op_table.specs.State.{State, IsSafe}
+use Rattle.op_table.specs.State.{IsSafe}
 use Rattle.op_table.specs.Clock.{Timed}
 use Rattle.op_table.specs.Run.{after}
-use Rattle.claim_core.specs.Program.{opening_of, before}
+use Rattle.claim_core.specs.Program.{opening_of}
 use Rattle.tracer.specs.TimeOrder.{listed_ops, KeepsBoundsListed}
 use Rattle.one_trap.specs.Program.{op_of, in_one_trap}
 use Rattle.one_trap.specs.Lines.{item_time}

@@ -1,8 +1,7 @@
 -- The report is what is sent, piece by piece.
-use Rattle.std.proofs.Common.{◌≡◌, ℕ, zero, suc, ◌+◌, List, [], ◌∷◌, ◌++◌, length, map, refl, sym, ◌∙◌, ap, append_assoc}
+use Rattle.std.proofs.Common.{◌≡◌, ℕ, zero, suc, ◌+◌, List, [], ◌∷◌, ◌++◌, length, map, refl, ◌∙◌, ap, append_assoc}
 use Rattle.std.specs.Prelude.{flat_map, zip, codes, decimal}
 use Rattle.std.specs.List.{range_with_len, AllByRecursion, concat}
-use Rattle.std.specs.Fmt.{digits}
 use Rattle.std.proofs.lemmas.List.Elements.{recursion_from_All}
 use Rattle.qccd_base.specs.declared.names.Qubit.{Qubit}
 use Rattle.qccd_base.specs.declared.names.Bit.{Bit}
@@ -15,7 +14,7 @@ use Rattle.transport_asm.specs.OpText.{next_word, operand_text, angles_text, bit
 use Rattle.tracer.specs.Report.{line, labelled, size_line, op_line, report_text}
 use Rattle.one_trap.specs.Program.{in_one_trap}
 use Rattle.one_trap.specs.Plain.{IsPlainItem, IsPlain}
-use Rattle.one_trap.specs.Lines.{item_time, timed_item, op_lines, end_time, pair_text, end_words, gates_in, gate_counts, one_trap_text, start_words, operand_word, gate_head, gate_line, gate_lines, sizes, ops_line, opening_text, pair_word, totals, closing_text, sent_text}
+use Rattle.one_trap.specs.Lines.{item_time, timed_item, op_lines, end_time, pair_text, end_words, gates_in, gate_counts, one_trap_text, start_words, operand_word, gate_line, gate_lines, sizes, pair_word, totals, sent_text}
 use Rattle.one_trap.proofs.Text.{append_nil, decimal_zero, report-one_trap}
 
 -- the same pieces, put together in two ways

@@ -2,8 +2,7 @@
 use Rattle.std.proofs.Common.{◌≡◌, ℕ, zero, suc, ◌+◌, ◌-◌, ◌<◌, ◌≤◌, List, [], ◌∷◌, ◌++◌, refl, sym, ◌∙◌, ap, subst, arith, append_assoc, Option}
 use Rattle.std.specs.Prelude.{flat_map}
 use Rattle.std.specs.List.{range_with_len}
-use Rattle.qccd_io.specs.Faults.{Rose}
-use Rattle.qccd_io.specs.Sink.{appended, TookPrefix}
+use Rattle.qccd_io.specs.Sink.{appended}
 use Rattle.qccd_io.proofs.Exits.{failed-first, failed-second}
 use Rattle.one_trap.proofs.Three.{Failed}
 

@@ -1,17 +1,15 @@
 -- The state of ions in a row: ion i at position i of the one trap, with qubit i.
-use Rattle.std.proofs.Common.{◌≡◌, ◌≢◌, ℕ, zero, suc, ◌+◌, ◌<◌, ◌≤◌, Bool, true, false, cond, not, eqb, ltb, List, [], ◌∷◌, ◌++◌, length, map, replicate, get_or, refl, sym, ◌∙◌, ap, arith, Option, Some, None}
-use Rattle.std.specs.Prelude.{count_by, find, position, filter_map, option_map, Contains}
-use Rattle.std.specs.List.{range_with_len, prefix_len, enumerate_from}
+use Rattle.std.proofs.Common.{◌≡◌, ℕ, zero, suc, ◌+◌, ◌<◌, ◌≤◌, Bool, true, false, not, eqb, List, [], ◌∷◌, length, map, get_or, refl, sym, ◌∙◌, ap, arith, Some}
+use Rattle.std.specs.Prelude.{count_by, find, position}
+use Rattle.std.specs.List.{range_with_len, prefix_len}
 use Rattle.std.proofs.lemmas.Bool.{lt-ltb}
 use Rattle.std.proofs.lemmas.Bool.Decides.{nat_tests}
-use Rattle.std.proofs.lemmas.List.FromFn.{length-range_with_len, length-map-range_with_len}
-use Rattle.std.proofs.Math.Dec.{eqb_refl}
+use Rattle.std.proofs.lemmas.List.FromFn.{length-map-range_with_len}
 use Rattle.qccd_machine.specs.Machine.{MachineData}
 use Rattle.qccd_base.specs.declared.names.Ion.{Ion}
-use Rattle.qccd_base.specs.declared.names.Qubit.{Qubit}
-use Rattle.op_table.specs.State.{Spot, InTrap, OnSegment, InJunction, Stand, State, is_in, is_at, is_on, is_within, ions_in, qubit_at, spot_from, spot_or, opening, IsSafe}
+use Rattle.op_table.specs.State.{Spot, InTrap, Stand, State, is_in, is_at, is_on, is_within, ions_in, qubit_at, spot_from, opening, IsSafe}
 use Rattle.one_trap.specs.Program.{ion}
-use Rattle.one_trap.proofs.Ranges.{count_by-cons, count_by-map, map-range, count_range-none, count_range-all, count_range-one, eqb-apart}
+use Rattle.one_trap.proofs.Ranges.{count_by-map, map-range, count_range-none, count_range-all, count_range-one, eqb-apart}
 
 abbrev pub stand : ℕ → Stand
 stand i = record { spot = InTrap 0 i; qubit = record { 0 = i } }

@@ -1,26 +1,23 @@
 -- The report of a circuit of gates in one trap is the text of its lines.
-use Rattle.std.proofs.Common.{◌≡◌, ◌≢◌, ℕ, zero, suc, ◌+◌, ◌<◌, ◌≤◌, Bool, true, false, cond, eqb, List, [], ◌∷◌, ◌++◌, length, map, refl, sym, ◌∙◌, ap, arith, append_assoc, ◌⊎◌, inl, inr, Option, Some, None, get_or}
+use Rattle.std.proofs.Common.{◌≡◌, ℕ, zero, suc, ◌+◌, ◌<◌, ◌≤◌, true, false, cond, eqb, List, [], ◌∷◌, ◌++◌, length, map, refl, sym, ◌∙◌, ap, arith, append_assoc, ◌⊎◌, inl, inr, Option, Some}
 use Rattle.std.specs.Prelude.{count_by, flat_map, find, filter_map, codes, decimal}
 use Rattle.std.specs.List.{range_with_len, enumerate_from, AllByRecursion}
 use Rattle.std.specs.Fmt.{digits}
 use Rattle.std.proofs.lemmas.List.Folds.{flat_map-map}
 use Rattle.std.proofs.lemmas.List.Elements.{recursion_from_All}
 use Rattle.qccd_base.specs.declared.names.Ion.{Ion}
-use Rattle.qccd_circuit.specs.declared.kinds.ItemKind.{ItemKind}
-use Rattle.qccd_circuit.specs.declared.kinds.ItemKind.TheVariants.{Gate1, Gate2, Barrier}
+use Rattle.qccd_circuit.specs.declared.kinds.ItemKind.TheVariants.{Gate1, Gate2}
 use Rattle.qccd_circuit.specs.Item.{ItemData}
 use Rattle.qccd_circuit.specs.Circuit.{CircuitData}
-use Rattle.qccd_machine.specs.Machine.{MachineData}
 use Rattle.qccd_machine.specs.Preset.{single}
-use Rattle.op_table.specs.declared.kinds.OpKind.{OpKind}
-use Rattle.op_table.specs.State.{Stand, State, is_at, ions_in}
+use Rattle.op_table.specs.State.{Stand, State, is_at}
 use Rattle.claim_core.specs.Program.{opening_of, end_of}
 use Rattle.transport_asm.specs.OpText.{next_word}
-use Rattle.tracer.specs.Report.{line, entry_text, numbered_ions, chain_of, end_line, end_lines, item_column, column_of, counts_line, report_text, start_line, labelled}
+use Rattle.tracer.specs.Report.{line, entry_text, numbered_ions, chain_of, end_line, end_lines, item_column, column_of, counts_line, report_text, start_line}
 use Rattle.one_trap.specs.Program.{op_of, ion, in_one_trap}
 use Rattle.one_trap.specs.Plain.{IsPlainItem, IsPlain}
-use Rattle.one_trap.specs.Lines.{start_words, pair_text, end_words, gates_in, gate_counts, one_trap_text}
-use Rattle.one_trap.proofs.Ranges.{eqb-apart, count_by-cons, count_by-map}
+use Rattle.one_trap.specs.Lines.{start_words, end_words, gates_in, gate_counts, one_trap_text}
+use Rattle.one_trap.proofs.Ranges.{eqb-apart, count_by-cons}
 use Rattle.one_trap.proofs.Row.{stand, row, still, opening-row, ions_in-row, eqb-same}
 use Rattle.one_trap.proofs.Legal.{after-items}
 use Rattle.one_trap.proofs.Clock.{lines-items, last-items}

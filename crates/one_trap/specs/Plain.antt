@@ -1,5 +1,5 @@
 -- Circuits of gates alone.
-use Rattle.std.specs.Prelude.{◌≡◌, ◌⊎◌, List, [], All}
+use Rattle.std.specs.Prelude.{◌≡◌, ◌⊎◌, [], All}
 use Rattle.qccd_circuit.specs.declared.kinds.ItemKind.TheVariants.{Gate1, Gate2}
 use Rattle.qccd_circuit.specs.Item.{ItemData}
 use Rattle.qccd_circuit.specs.Circuit.{CircuitData}

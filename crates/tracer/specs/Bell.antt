@@ -1,5 +1,5 @@
 -- The Bell pair on one trap, as a worked example.
-use Rattle.std.specs.Prelude.{ℕ, List, [], ◌∷◌, ◌++◌, None, codes, flat_map}
+use Rattle.std.specs.Prelude.{ℕ, List, [], ◌∷◌, None, codes, flat_map}
 use Rattle.qccd_base.specs.declared.names.Ion.{Ion}
 use Rattle.qccd_base.specs.declared.names.Qubit.{Qubit}
 use Rattle.qccd_circuit.specs.declared.kinds.ItemKind.TheVariants.{Gate1, Gate2}

@@ -1,5 +1,5 @@
 -- The report of a transport program.
-use Rattle.std.specs.Prelude.{ℕ, Bool, ◌==◌, List, [], ◌∷◌, ◌++◌, length, map, filter, Option, Some, None, find, count_by, flat_map, filter_map, codes, decimal}
+use Rattle.std.specs.Prelude.{ℕ, Bool, ◌==◌, List, [], ◌∷◌, ◌++◌, length, map, filter, find, count_by, flat_map, filter_map, codes, decimal}
 use Rattle.std.specs.List.{enumerate_from, range_with_len}
 use Rattle.qccd_base.specs.Greatest.{greatest}
 use Rattle.qccd_base.specs.declared.names.Ion.{Ion}

@@ -1,4 +1,4 @@
-use Rattle.std.proofs.Common.{arith, ◌∙◌, ap, sym}
+use Rattle.std.proofs.Common.{arith}
 use Rattle.std.specs.Prelude.{flat_map, codes}
 use Rattle.qccd_io.proofs.Exits.{on_err}
 use Rattle.std.proofs.lemmas.Result.{on_err_weaker}

@@ -1,9 +1,7 @@
-use Rattle.std.proofs.Common.{◌≡◌, ℕ, ◌+◌, ◌≤◌, ◌++◌, List, arith, ap, sym, ◌∙◌, subst, take, get_or}
-use Rattle.std.specs.Prelude.{codes}
+use Rattle.std.proofs.Common.{◌≡◌, ℕ, ◌+◌, ◌≤◌, ◌++◌, List, arith, ap, sym, ◌∙◌, subst, take}
 use Rattle.qccd_io.specs.Sink.{appended}
 use Rattle.qccd_io.proofs.Exits.{on_err, failed-first, failed-second}
-use Rattle.qccd_circuit.specs.Item.{ItemData}
-use Rattle.one_trap.specs.Lines.{gate_line, gate_lines, end_time, item_time}
+use Rattle.one_trap.specs.Lines.{gate_line, gate_lines, item_time}
 use Rattle.one_trap.proofs.ItemTime.{item_time-le}
 use Rattle.one_trap.proofs.GateLines.{end-next, lines-next, lines-split}
 use Rattle.one_trap.proofs.Three.{Failed, sent-two}

@@ -1,10 +1,9 @@
-use Rattle.std.proofs.Common.{◌≡◌, ℕ, List, arith, ◌∙◌, ap, sym}
+use Rattle.std.proofs.Common.{ℕ, List, arith, ◌∙◌, ap, sym}
 use Rattle.std.specs.Prelude.{flat_map, decimal}
 use Rattle.std.specs.List.{range_with_len}
 use Rattle.qccd_io.specs.Sink.{appended}
 use Rattle.qccd_io.proofs.Exits.{on_err}
 use Rattle.transport_asm.specs.OpText.{next_word}
-use Rattle.one_trap.specs.Lines.{pair_word}
 use Rattle.one_trap.proofs.Three.{sent-two}
 use Rattle.one_trap.proofs.RangeText.{range-next, failed-range}
 use Rattle.one_trap.proofs.report.send_ions.Goals as goal

@@ -15,18 +15,18 @@ pub returns-in_err-send_start-clause-err : goal.returns-in_err-send_start-clause
 returns-in_err-send_start-clause-err g c =
     on_err c.from_residual-in_err-send_start.result
     (three-second _ _ _ _ _ _ (sizes c.args.circuit.now c.args.machine.now) (codes "start T0" ++ start_words c.args.circuit.now.qubits ++ codes "\n") (ops_line (length c.args.circuit.now.items))
-        c.in_ok-send_sizes.ensures.ok c.send_sizes.ensures.count c.send_start.ensures.count (rw c.qubits-qubits.ensures at c.in_err-send_start.ensures.err))
+    c.in_ok-send_sizes.ensures.ok c.send_sizes.ensures.count c.send_start.ensures.count (rw c.qubits-qubits.ensures at c.in_err-send_start.ensures.err))
 
 pub returns-clause-ok : goal.returns-clause-ok
 returns-clause-ok g c =
     on_ok_weaker c.send_ops.result
     (three-whole _ _ _ _ (sizes c.args.circuit.now c.args.machine.now) (codes "start T0" ++ start_words c.args.circuit.now.qubits ++ codes "\n") (ops_line (length c.args.circuit.now.items))
-        c.in_ok-send_sizes.ensures.ok (rw c.qubits-qubits.ensures at c.in_ok-send_start.ensures.ok))
+    c.in_ok-send_sizes.ensures.ok (rw c.qubits-qubits.ensures at c.in_ok-send_start.ensures.ok))
     (rw c.items.ensures.value at c.send_ops.ensures.ok)
 
 pub returns-clause-err : goal.returns-clause-err
 returns-clause-err g c =
     on_err_weaker c.send_ops.result
     (three-third _ _ _ _ _ _ _ (sizes c.args.circuit.now c.args.machine.now) (codes "start T0" ++ start_words c.args.circuit.now.qubits ++ codes "\n") (ops_line (length c.args.circuit.now.items))
-        c.in_ok-send_sizes.ensures.ok (rw c.qubits-qubits.ensures at c.in_ok-send_start.ensures.ok) (omega (arith, c.send_sizes.ensures.count, c.send_start.ensures.count)) c.send_ops.ensures.count)
+    c.in_ok-send_sizes.ensures.ok (rw c.qubits-qubits.ensures at c.in_ok-send_start.ensures.ok) (omega (arith, c.send_sizes.ensures.count, c.send_start.ensures.count)) c.send_ops.ensures.count)
     (rw c.items.ensures.value at c.send_ops.ensures.err)

@@ -2,7 +2,7 @@ use Rattle.std.proofs.Common.{◌≡◌, ◌≤◌}
 use Rattle.std.specs.Prelude.{flat_map}
 use Rattle.std.specs.List.{range_with_len}
 use Rattle.qccd_io.specs.Sink.{appended, Further}
-use Rattle.one_trap.specs.Lines.{pair_word, start_words}
+use Rattle.one_trap.specs.Lines.{pair_word}
 use Rattle.one_trap.proofs.report.send_pairs.Given as goal
 
 abbrev pub invariant-loop-ion : goal.invariant-loop-ion

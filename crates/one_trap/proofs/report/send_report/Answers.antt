@@ -1,4 +1,4 @@
-use Rattle.std.proofs.Common.{◌≡◌, ℕ, ◌++◌, List, ◌≤◌, arith, ap, sym, ◌∙◌, subst}
+use Rattle.std.proofs.Common.{◌≤◌, arith, sym, subst}
 use Rattle.std.specs.Prelude.{All}
 use Rattle.qccd_base.specs.Times.{times_of}
 use Rattle.qccd_base.specs.declared.times.Times.{Times}
@@ -18,7 +18,7 @@ returns-in_err-send_opening-clause-err g c =
 pub send_gates-requires-clause-within : goal.send_gates-requires-clause-within
 send_gates-requires-clause-within g c =
     rw c.items-items.ensures.value (λ k d within j q below.
-        omega (arith, (c.items-items.ensures.is_circuit.within k d within).qubits_below j q below, c.requires.low))
+    omega (arith, (c.items-items.ensures.is_circuit.within k d within).qubits_below j q below, c.requires.low))
 
 pub send_gates-requires-clause-short : goal.send_gates-requires-clause-short
 send_gates-requires-clause-short g c =
@@ -31,8 +31,8 @@ returns-in_err-finish-clause-err g c =
     let machine = c.args.machine.now in
     on_err c.from_residual-in_err-finish.result
     (three-second _ _ _ _ _ _ (opening_text circuit machine) (gate_lines machine.times 0 0 circuit.items) (closing_text circuit machine)
-        c.in_ok-send_opening.ensures.ok c.send_opening.ensures.count c.send_gates.ensures.count
-        (rw (c.times-times.ensures, c.items-items.ensures.value) at c.in_err-finish.ensures.err))
+    c.in_ok-send_opening.ensures.ok c.send_opening.ensures.count c.send_gates.ensures.count
+    (rw (c.times-times.ensures, c.items-items.ensures.value) at c.in_err-finish.ensures.err))
 
 pub returns-clause-ok : goal.returns-clause-ok
 returns-clause-ok g c =
@@ -40,7 +40,7 @@ returns-clause-ok g c =
     let machine = c.args.machine.now in
     on_ok_weaker c.send_closing.result
     (three-whole _ _ _ _ (opening_text circuit machine) (gate_lines machine.times 0 0 circuit.items) (closing_text circuit machine)
-        c.in_ok-send_opening.ensures.ok (rw (c.times-times.ensures, c.items-items.ensures.value) at c.in_ok-finish.ensures.ok))
+    c.in_ok-send_opening.ensures.ok (rw (c.times-times.ensures, c.items-items.ensures.value) at c.in_ok-finish.ensures.ok))
     (rw (c.qubits-qubits.ensures, c.count_in-ones.ensures, c.count_in-twos.ensures, c.in_ok-finish.ensures.finish, c.times-times.ensures, c.items-items.ensures.value) at c.send_closing.ensures.ok)
 
 pub returns-clause-err : goal.returns-clause-err
@@ -49,6 +49,6 @@ returns-clause-err g c =
     let machine = c.args.machine.now in
     on_err_weaker c.send_closing.result
     (three-third _ _ _ _ _ _ _ (opening_text circuit machine) (gate_lines machine.times 0 0 circuit.items) (closing_text circuit machine)
-        c.in_ok-send_opening.ensures.ok (rw (c.times-times.ensures, c.items-items.ensures.value) at c.in_ok-finish.ensures.ok)
-        (omega (arith, c.send_opening.ensures.count, c.send_gates.ensures.count)) c.send_closing.ensures.count)
+    c.in_ok-send_opening.ensures.ok (rw (c.times-times.ensures, c.items-items.ensures.value) at c.in_ok-finish.ensures.ok)
+    (omega (arith, c.send_opening.ensures.count, c.send_gates.ensures.count)) c.send_closing.ensures.count)
     (rw (c.qubits-qubits.ensures, c.count_in-ones.ensures, c.count_in-twos.ensures, c.in_ok-finish.ensures.finish, c.times-times.ensures, c.items-items.ensures.value) at c.send_closing.ensures.err)

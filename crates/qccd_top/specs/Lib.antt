@@ -1,0 +1,5 @@
+pub mod Asking
+pub mod Faithful
+pub mod Causes
+pub mod Report
+pub mod Answer

@@ -1,0 +1,9 @@
+//! The top call: from the words of the command line to the report.
+#![tactic(auto)]
+
+mod asked;
+mod input;
+mod output;
+mod top;
+
+pub use top::{Status, run};
