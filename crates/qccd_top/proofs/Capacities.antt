@@ -29,8 +29,27 @@ capacity_after-bounds name word x is =
     capacity_step (bytes_eq word name) x (find (λ c. bytes_eq word (name ++ (codes ":" ++ decimal c))) capacities) is
     (found_capacity (λ c. bytes_eq word (name ++ (codes ":" ++ decimal c))) x)
 
--- a machine that was asked for is one of one trap, with such a capacity
-machine_bounds : (o : Option ℕ) (name : List ℕ) (machine : AskedMachine) → option_map (λ m. AskedRun m name 4 IonSwap) (option_map (OfPreset Single) o) ≡ Some (AskedRun machine name 4 IonSwap)
-    → (capacity : ℕ) × (o ≡ Some capacity) × (machine ≡ OfPreset Single capacity)
-machine_bounds None name machine is = absurd (cc)
-machine_bounds (Some x) name machine is = let same : OfPreset Single x ≡ machine = cc in (x, refl, sym same)
+machine_bounds : (o : Option ℕ) (circuit name : List ℕ) (capacity : ℕ)
+    → option_map (λ m. AskedRun m circuit 4 IonSwap) (option_map (OfPreset Single) o) ≡ Some (AskedRun (OfPreset Single capacity) name 4 IonSwap)
+    → ((x : ℕ) → o ≡ Some x → (2 ≤ x) × (x ≤ 32)) → (2 ≤ capacity) × (capacity ≤ 32)
+machine_bounds None circuit name capacity is bounds = absurd (cc)
+machine_bounds (Some x) circuit name capacity is bounds =
+    let same : x ≡ capacity = cc in
+    let within = bounds x refl in
+    (omega (arith, within.0), omega (arith, within.1))
+
+run_bounds : (b : Bool) (o : Option ℕ) (circuit name : List ℕ) (capacity : ℕ)
+    → cond b (option_map (λ m. AskedRun m circuit 4 IonSwap) (option_map (OfPreset Single) o)) None ≡ Some (AskedRun (OfPreset Single capacity) name 4 IonSwap)
+    → ((x : ℕ) → o ≡ Some x → (2 ≤ x) × (x ≤ 32)) → (2 ≤ capacity) × (capacity ≤ 32)
+run_bounds true o circuit name capacity is bounds = machine_bounds o circuit name capacity is bounds
+run_bounds false o circuit name capacity is bounds = absurd (cc)
+
+-- what the words ask for has a capacity from 2 to 32
+pub asked-bounds : (words : List (List ℕ)) (capacity : ℕ) (name : List ℕ) → request_of words ≡ Some (AskedRun (OfPreset Single capacity) name 4 IonSwap) → (2 ≤ capacity) × (capacity ≤ 32)
+asked-bounds [] capacity name is = absurd (cc)
+asked-bounds (a ∷ []) capacity name is = absurd (cc)
+asked-bounds (a ∷ b ∷ []) capacity name is = absurd (cc)
+asked-bounds (command ∷ machine ∷ circuit ∷ []) capacity name is =
+    run_bounds (bytes_eq command (codes "run")) (capacity_after (codes "@single") machine) circuit name capacity is
+    (λ x found. capacity_after-bounds (codes "@single") machine x found)
+asked-bounds (a ∷ b ∷ c ∷ d ∷ more) capacity name is = absurd (cc)
