@@ -77,12 +77,6 @@ some_bytes (x ∷ xs) test empty = cc
 longer : (name word rest : List ℕ) → word ≡ name ++ rest → rest ≢ [] → word ≢ name
 longer name word rest is some alone = some (append_cancel_left name rest [] (sym is ∙ alone ∙ sym (append-nil name)))
 
--- the name alone
-pub capacity-usual : (name word rest : List ℕ) → word ≡ name ++ rest → rest ≡ [] → Some 16 ≡ capacity_after name word
-capacity-usual name word rest is empty =
-    let whole : word ≡ name = is ∙ ap (λ (t : List ℕ). name ++ t) empty ∙ append-nil name in
-    sym (rw (same word name whole) refl)
-
 -- a word that does not begin with the name
 pub capacity-other_name : (name word : List ℕ) → ((rest : List ℕ) → word ≢ name ++ rest) → None ≡ capacity_after name word
 capacity-other_name name word apart =
