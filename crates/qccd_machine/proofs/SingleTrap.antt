@@ -4,7 +4,7 @@ use Rattle.qccd_base.specs.declared.names.TrapId.{TrapId}
 use Rattle.qccd_base.specs.declared.names.Res.TheVariants as res
 use Rattle.qccd_machine.specs.Machine.{IsValid, times_of, first_trap}
 use Rattle.qccd_machine.specs.Preset.{single}
-use Rattle.qccd_base.specs.Times.{usual}
+use Rattle.qccd_base.specs.Times.{usual, times_of}
 
 only_trap : (t : TrapId) → t.0 < 1 → first_trap ≡ res.Trap t
 only_trap t h = let zero_is : 0 ≡ t.0 = omega arith in ap (λ (n : ℕ). res.Trap (record { 0 = n })) zero_is

@@ -7,6 +7,7 @@ use Rattle.qccd_base.specs.declared.names.Res.{Res}
 use Rattle.qccd_base.specs.declared.names.Res.TheVariants as res
 use Rattle.qccd_base.specs.declared.times.Times.{Times}
 use Rattle.qccd_base.specs.Greatest.{greatest}
+use Rattle.qccd_base.specs.Times.{times_of}
 use Rattle.qccd_machine.specs.declared.place.Place.{Place}
 use Rattle.qccd_machine.specs.declared.place.Place.TheVariants.{TrapEnd, Junction}
 
@@ -68,10 +69,6 @@ first_trap = res.Trap (record { 0 = 0 })
 -- there is a path from the first trap
 abbrev pub IsReached : MachineData → Res → Type 0
 IsReached m r = (path : List ℕ) × Leads m first_trap path r
-
--- the times in the order of their fields
-abbrev pub times_of : Times → List ℕ
-times_of t = t.split ∷ t.merge ∷ t.shift ∷ t.cross2 ∷ t.cross3 ∷ t.cross4 ∷ t.rot ∷ t.gate1 ∷ t.measure ∷ t.reset ∷ t.gate2 ∷ t.between ∷ []
 
 -- what makes a machine of parts
 pub record IsValid (m : MachineData) : Type 0 where

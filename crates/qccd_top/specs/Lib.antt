@@ -3,3 +3,4 @@ pub mod Faithful
 pub mod Causes
 pub mod Report
 pub mod Answer
+pub mod Due

@@ -1,8 +1,10 @@
 //! From the words to the status.
 
-ghost use Rattle.std.specs.Prelude.{◌≡◌, ◌≢◌, ◌≤◌, OnOk, IfErr, map, string_bytes};
+ghost use Rattle.std.specs.Prelude.{◌≡◌, ◌≢◌, ◌↔◌, ◌⊎◌, ◌<◌, ◌≤◌, ◌-◌, ◌^◌, ℕ, Some, None, OnOk, IfErr, map, string_bytes};
 ghost use Rattle.qccd_io.specs.Faults.{Rose};
-ghost use Rattle.qccd_io.specs.Shelf.{NoneIsOut, HoldsTheSame};
+ghost use Rattle.qccd_io.specs.Shelf.{Holding, NoneIsOut, HoldsTheSame};
+ghost use Rattle.qccd_words.specs.Words.{request_of};
+ghost use Rattle.qccd_top.specs.Due.{IsDue};
 ghost use Rattle.qccd_top.specs.Causes.{IsCause, IsDone};
 ghost use Rattle.qccd_top.specs.Answer.{IsAnswered};
 
@@ -45,6 +47,13 @@ pub fn run<R: Threads + Sync, F: Shelf, O: Sink, E: Sink, P: Post>(
     ensures refused { result.0 ≢ 0 → IsAnswered (map string_bytes words.now) (F.told shelf.old)
         (Rose (F.faults shelf.old) (F.faults shelf.new)) (Rose (O.faults out.old) (O.faults out.new)) (Rose (E.faults err.old) (E.faults err.new))
         (O.taken out.old) (O.taken out.new) (E.taken err.old) (E.taken err.new) result.0 }
+    // Where the shelf tells what it holds and no count of faults rises, the status is the one that is
+    // due, or memory ran out.
+    ensures exact { (held : Holding) (status : ℕ) → F.told shelf.old ≡ Some held → IsDue (map string_bytes words.now) held status
+        → F.faults shelf.old < 2 ^ 64 - 1 → F.faults shelf.new ≡ F.faults shelf.old
+        → O.faults out.old < 2 ^ 64 - 1 → O.faults out.new ≡ O.faults out.old
+        → (result.0 ≡ status) ⊎ (result.0 ≡ 12) }
+    ensures words { (result.0 ≡ 2) ↔ (request_of (map string_bytes words.now) ≡ None) }
     ensures same { HoldsTheSame (F.told shelf.old) (F.told shelf.new) }
     ensures shelf_count { F.faults shelf.old ≤ F.faults shelf.new }
     ensures out_count { O.faults out.old ≤ O.faults out.new }
