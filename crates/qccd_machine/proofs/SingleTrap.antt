@@ -2,7 +2,7 @@ use Rattle.std.proofs.Common.{◌≡◌, ℕ, ◌<◌, ◌≤◌, [], ◌∷◌,
 use Rattle.std.proofs.lemmas.List.Elements.{All-from_recursion}
 use Rattle.qccd_base.specs.declared.names.TrapId.{TrapId}
 use Rattle.qccd_base.specs.declared.names.Res.TheVariants as res
-use Rattle.qccd_machine.specs.Machine.{IsValid, times_of, first_trap}
+use Rattle.qccd_machine.specs.Machine.{IsValid, first_trap}
 use Rattle.qccd_machine.specs.Preset.{single}
 use Rattle.qccd_base.specs.Times.{usual, times_of}
 

@@ -1,21 +1,18 @@
 -- One status is due.
-use Rattle.std.proofs.Common.{◌≡◌, ◌≢◌, ℕ, ◌-◌, ◌^◌, ◌<◌, ◌≤◌, List, length, refl, sym, ◌∙◌, ap, subst, arith, ◌⊎◌, inl, inr, Option, None, Some}
+use Rattle.std.proofs.Common.{◌≡◌, ℕ, ◌-◌, ◌^◌, ◌<◌, ◌≤◌, List, length, refl, sym, ◌∙◌, ap, subst, arith, ◌⊎◌, inl, inr, Option, None, Some}
 use Rattle.qccd_io.specs.Faults.{Rose}
 use Rattle.qccd_io.specs.Shelf.{Holding}
 use Rattle.qccd_circuit.specs.Circuit.{CircuitData}
-use Rattle.qccd_machine.specs.declared.place.Preset.{Preset}
 use Rattle.qccd_machine.specs.declared.place.Preset.TheVariants.{L6, G2x3, Single}
-use Rattle.qccd_machine.specs.Machine.{MachineData, slots_of}
-use Rattle.qccd_machine.specs.Preset.{single}
-use Rattle.qasm_reader.specs.declared.fault.QasmKind.{QasmKind}
-use Rattle.qasm_reader.specs.Reading.{IsCircuitOf, IsRefused}
+use Rattle.qccd_machine.specs.Machine.{MachineData}
+use Rattle.qasm_reader.specs.Reading.{IsCircuitOf}
 use Rattle.qasm_reader.proofs.FormLemmas.{one_form}
 use Rattle.qccd_words.specs.declared.refusal.Refusal.{Refusal}
 use Rattle.qccd_words.specs.declared.refusal.Refusal.TheVariants.{Words, Read, Write, TooLarge, Circuit, Shortage, NoMemory}
-use Rattle.qccd_words.specs.Words.{AskedMachine, OfPreset, OfFile, Asked, AskedRun, request_of}
+use Rattle.qccd_words.specs.Words.{AskedMachine, OfPreset, OfFile, request_of}
 use Rattle.qccd_words.specs.Message.{status_of}
 use Rattle.qccd_top.specs.Asking.{IsMachineOf, AsksFor, HoldsCircuit}
-use Rattle.qccd_top.specs.Causes.{IsCause, IsDone, IsFileCause, HoldsRefused, IsShort, IsCauseInFile}
+use Rattle.qccd_top.specs.Causes.{IsCause, IsDone}
 use Rattle.qccd_top.specs.Due.{IsLarge, IsNoCircuit, Reads, IsTooWide, IsWithinSlots, IsDueFor, IsDue}
 
 one_machine : (word : AskedMachine) (m n : MachineData) → IsMachineOf word m → IsMachineOf word n → m ≡ n

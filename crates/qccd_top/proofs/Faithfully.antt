@@ -1,6 +1,5 @@
 -- The program of the report is the one meant, and all that is said of it holds.
-use Rattle.std.proofs.Common.{◌≡◌, ◌≢◌, ℕ, ◌≤◌, List, [], ◌∷◌, refl, sym, ap, subst, arith, ◌⊎◌, inl, inr, Option, Some}
-use Rattle.std.specs.Prelude.{All}
+use Rattle.std.proofs.Common.{◌≡◌, ◌≢◌, ℕ, ◌≤◌, List, [], ◌∷◌, refl, sym, subst, arith, ◌⊎◌, inl, inr, Option, Some}
 use Rattle.std.specs.List.{AllByRecursion}
 use Rattle.std.proofs.lemmas.List.Elements.{recursion_from_All}
 use Rattle.qccd_base.specs.declared.names.Mode.TheVariants.{IonSwap}
@@ -9,17 +8,16 @@ use Rattle.qccd_circuit.specs.declared.kinds.ItemKind.TheVariants.{Gate1, Gate2,
 use Rattle.qccd_circuit.specs.Item.{ItemData}
 use Rattle.qccd_circuit.specs.Circuit.{CircuitData, IsCircuit}
 use Rattle.qccd_machine.specs.declared.place.Preset.TheVariants.{Single}
-use Rattle.qccd_machine.specs.Machine.{MachineData, IsValid, slots_of}
+use Rattle.qccd_machine.specs.Machine.{MachineData, slots_of}
 use Rattle.qccd_machine.specs.Preset.{single}
 use Rattle.qccd_machine.proofs.SingleTrap.{valid_single}
 use Rattle.qasm_reader.specs.Reading as reading
 use Rattle.claim_core.proofs.Meets.{run-meets}
-use Rattle.one_trap.specs.Plain.{IsPlain, IsPlainItem}
 use Rattle.one_trap.specs.Program.{in_one_trap}
 use Rattle.one_trap.proofs.Implements.{NoBarrier, implements-one_trap, keeps-one_trap}
 use Rattle.one_trap.proofs.Listed.{keeps_listed-one_trap}
 use Rattle.qccd_words.specs.Words.{OfPreset, AskedRun, request_of}
-use Rattle.qccd_top.specs.Asking.{AsksFor, HoldsCircuit}
+use Rattle.qccd_top.specs.Asking.{HoldsCircuit}
 use Rattle.qccd_top.specs.Faithful.{IsRunOf}
 use Rattle.qccd_top.proofs.Capacities.{asked-bounds}
 

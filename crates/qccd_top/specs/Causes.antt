@@ -1,6 +1,5 @@
 -- Why a command is refused.
-use Rattle.std.specs.Prelude.{◌≡◌, ◌≢◌, ℕ, ◌<◌, ◌≤◌, ◌⊎◌, List, length, Option, None, Some}
-use Rattle.qccd_io.specs.Faults.{Rose}
+use Rattle.std.specs.Prelude.{◌≡◌, ◌≢◌, ℕ, ◌<◌, ◌≤◌, ◌⊎◌, List, length, Option, None}
 use Rattle.qccd_io.specs.Shelf.{Holding, Lacks}
 use Rattle.qccd_io.specs.Fetch.{HoldsFile, HoldsMoreThan}
 use Rattle.qccd_io.specs.Sink.{appended, TookPrefix}

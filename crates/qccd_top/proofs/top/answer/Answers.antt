@@ -1,4 +1,4 @@
-use Rattle.std.proofs.Common.{◌≡◌, ◌≤◌, map, Global, arith, sym, subst}
+use Rattle.std.proofs.Common.{◌≤◌, map, Global, arith, subst}
 use Rattle.std.specs.Prelude.{string_bytes}
 use Rattle.qccd_circuit.specs.Circuit.{CircuitData, IsCircuit}
 use Rattle.qccd_machine.specs.Machine.{slots_of}

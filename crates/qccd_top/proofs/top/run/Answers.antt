@@ -1,4 +1,4 @@
-use Rattle.std.proofs.Common.{◌≡◌, ℕ, List, map, Global, Option, sym, subst, inl}
+use Rattle.std.proofs.Common.{map, Global, Option, subst, inl}
 use Rattle.std.specs.Prelude.{string_bytes}
 use Rattle.qccd_io.specs.Faults.{Rose}
 use Rattle.qccd_io.specs.Shelf.{Holding}
@@ -24,4 +24,4 @@ returns-in-Err-clause-exact g c = λ held status told due low same out_low out_s
     let P : Option Holding → Type 0 = λ t. IsCause words t ShelfRises OutRises old new c.in-Err.refusal in
     rw c.status-status.ensures
     (cause_due words held ShelfRises OutRises old new c.in-Err.refusal status (subst P told c.in-Err.ensures.refused)
-        (stayed _ _ low same) (stayed _ _ out_low out_same) due)
+    (stayed _ _ low same) (stayed _ _ out_low out_same) due)
