@@ -4,6 +4,8 @@
 mod asked;
 mod input;
 mod output;
+#[cfg(test)]
+mod tests;
 mod top;
 
 pub use top::{Status, run};
