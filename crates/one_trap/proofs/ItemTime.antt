@@ -13,7 +13,7 @@ use Rattle.time_heat.specs.Duration.{ions_inside}
 use Rattle.time_heat.proofs.Bounds.{duration_of-le}
 use Rattle.op_table.specs.Clock.{between_positions, item_work}
 use Rattle.one_trap.specs.Program.{positions_of}
-use Rattle.one_trap.specs.Plain.{IsPlainItem}
+use Rattle.qasm_reader.specs.Reading.{IsPlainItem}
 use Rattle.one_trap.specs.Lines.{item_time}
 
 between_few : (qs : List Qubit) → AllByRecursion (λ q. q.0 < 32) qs → between_positions (map (λ q. q.0) qs) ≤ 30

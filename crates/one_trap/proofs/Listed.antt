@@ -20,7 +20,7 @@ ops_of_steps : (m : MachineData) (a k start : ℕ) (ds : List ItemData) → map 
 ops_of_steps m a k start [] = refl
 ops_of_steps m a k start (d ∷ ds) = ap (λ (rest : List OpKind). op_of (k, d) ∷ rest) (ops_of_steps m (a + 1) (k + 1) (start + item_time m.times d) ds)
 
-listed-one_trap : (c : CircuitData) (capacity : ℕ) → listed_ops (in_one_trap c (single capacity)) ≡ map op_of (enumerate_from 0 c.items)
+pub listed-one_trap : (c : CircuitData) (capacity : ℕ) → listed_ops (in_one_trap c (single capacity)) ≡ map op_of (enumerate_from 0 c.items)
 listed-one_trap c capacity = rw (listed-items (single capacity) c.items) (ops_of_steps (single capacity) 0 0 0 c.items)
 
 pub keeps_listed-one_trap : (c : CircuitData) (capacity : ℕ) → c.qubits ≤ capacity → KeepsBoundsListed (in_one_trap c (single capacity))

@@ -13,7 +13,7 @@ use Rattle.qccd_machine.specs.Preset.{single}
 use Rattle.transport_asm.specs.OpText.{next_word, operand_text, angles_text, bit_text}
 use Rattle.tracer.specs.Report.{line, labelled, size_line, op_line, report_text}
 use Rattle.one_trap.specs.Program.{in_one_trap}
-use Rattle.one_trap.specs.Plain.{IsPlainItem, IsPlain}
+use Rattle.qasm_reader.specs.Reading.{IsPlainItem, IsPlain}
 use Rattle.one_trap.specs.Lines.{item_time, timed_item, op_lines, end_time, pair_text, end_words, gates_in, gate_counts, one_trap_text, start_words, operand_word, gate_line, gate_lines, sizes, pair_word, totals, sent_text}
 use Rattle.one_trap.proofs.Text.{append_nil, decimal_zero, report-one_trap}
 

@@ -15,7 +15,7 @@ use Rattle.claim_core.specs.Program.{opening_of, end_of}
 use Rattle.transport_asm.specs.OpText.{next_word}
 use Rattle.tracer.specs.Report.{line, entry_text, numbered_ions, chain_of, end_line, end_lines, item_column, column_of, counts_line, report_text, start_line}
 use Rattle.one_trap.specs.Program.{op_of, ion, in_one_trap}
-use Rattle.one_trap.specs.Plain.{IsPlainItem, IsPlain}
+use Rattle.qasm_reader.specs.Reading.{IsPlainItem, IsPlain}
 use Rattle.one_trap.specs.Lines.{start_words, end_words, gates_in, gate_counts, one_trap_text}
 use Rattle.one_trap.proofs.Ranges.{eqb-apart, count_by-cons}
 use Rattle.one_trap.proofs.Row.{stand, row, still, opening-row, ions_in-row, eqb-same}

@@ -6,7 +6,7 @@ ghost use Rattle.qccd_io.specs.Faults.{Rose};
 ghost use Rattle.qccd_io.specs.Sink.{appended, TookPrefix, Further};
 ghost use Rattle.op_table.specs.Clock.{item_work};
 ghost use Rattle.one_trap.specs.Program.{positions_of};
-ghost use Rattle.one_trap.specs.Plain.{IsPlainItem, IsPlain};
+ghost use Rattle.qasm_reader.specs.Reading.{IsPlainItem, IsPlain};
 ghost use Rattle.one_trap.specs.Lines.{operand_word, gate_head, gate_line, gate_lines, end_time, item_time};
 
 use qccd_base::{Qubit, Times, number_text};

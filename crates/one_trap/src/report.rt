@@ -8,7 +8,7 @@ ghost use Rattle.qccd_circuit.specs.Circuit.{IsCircuit};
 ghost use Rattle.qccd_machine.specs.Preset.{single};
 ghost use Rattle.tracer.specs.Report.{report_text, item_column};
 ghost use Rattle.one_trap.specs.Program.{in_one_trap};
-ghost use Rattle.one_trap.specs.Plain.{IsPlain};
+ghost use Rattle.qasm_reader.specs.Reading.{IsPlain};
 ghost use Rattle.one_trap.specs.Lines.{start_words, pair_word, sizes, ops_line, opening_text, totals, closing_text, gates_in, end_time, sent_text};
 
 use crate::gates::send_gates;

@@ -1,5 +1,6 @@
 ghost use Rattle.std.specs.Prelude.{◌≡◌, ◌≤◌, IfOk, length};
-ghost use Rattle.qccd_machine.specs.Machine.{MachineData, IsValid, slots_of};
+ghost use Rattle.qccd_machine.specs.Machine.{MachineData, IsValid, slots_of, worst_of};
+ghost use Rattle.qccd_base.specs.Greatest.{greatest};
 ghost use Rattle.qccd_machine.specs.Preset.{single};
 
 use crate::place::{Place, Preset};
@@ -94,4 +95,29 @@ impl Machine {
             all - 1
         }
     }
+
+    /// How many operations one item takes at most: a hop of a qubit for each ordered pair of traps,
+    /// and the item itself. A hop brings the qubit to the end of its chain, splits, moves and merges
+    /// it, and takes it through each junction at most once.
+    pub fn worst(&self) -> u32
+        ensures { result ≡ worst_of self.now }
+    {
+        let traps = self.capacities.len() as u32;
+        let longest = u32::from(greatest_of(self.capacities.as_slice()));
+        let hop = (longest - 1) + 3 + 3 * u32::from(self.junctions);
+        traps * (traps - 1) * hop + 1
+    }
+}
+
+/// The greatest of the numbers, or 0 where there is none.
+fn greatest_of(numbers: &[u8]) -> u8
+    ensures { result ≡ greatest numbers.now }
+{
+    let mut most = 0;
+    for number in numbers {
+        if *number > most {
+            most = *number;
+        }
+    }
+    most
 }

@@ -13,7 +13,7 @@ use Rattle.qccd_words.specs.Words.{AskedMachine, OfPreset, OfFile, request_of}
 use Rattle.qccd_words.specs.Message.{status_of}
 use Rattle.qccd_top.specs.Asking.{IsMachineOf, AsksFor, HoldsCircuit}
 use Rattle.qccd_top.specs.Causes.{IsCause, IsDone}
-use Rattle.qccd_top.specs.Due.{IsLarge, IsNoCircuit, Reads, IsTooWide, IsWithinSlots, IsDueFor, IsDue}
+use Rattle.qccd_top.specs.Due.{IsLarge, IsNoCircuit, ReadsAs, IsTooWide, IsWithinSlots, IsDueFor, IsDue}
 
 one_machine : (word : AskedMachine) (m n : MachineData) → IsMachineOf word m → IsMachineOf word n → m ≡ n
 one_machine (OfPreset Single capacity) m n is also = is ∙ sym also
@@ -35,12 +35,12 @@ one_text : (file : Option (List ℕ)) (xs ys : List ℕ) → file ≡ Some xs �
 one_text file xs ys a b = cc
 
 -- a file that is no circuit does not read as one
-not_both : (file : Option (List ℕ)) (c : CircuitData) → IsNoCircuit file → Reads file c → ⊥
+not_both : (file : Option (List ℕ)) (c : CircuitData) → IsNoCircuit file → ReadsAs file c → ⊥
 not_both file c refusal reading =
     let same = one_text file refusal.text reading.text refusal.held reading.held in
     refusal.refused.no_circuit c (subst (λ (t : List ℕ). IsCircuitOf t c) (sym same) reading.reads)
 
-one_circuit : (file : Option (List ℕ)) (c d : CircuitData) → Reads file c → Reads file d → c ≡ d
+one_circuit : (file : Option (List ℕ)) (c d : CircuitData) → ReadsAs file c → ReadsAs file d → c ≡ d
 one_circuit file c d a b =
     let same = one_text file a.text b.text a.held b.held in
     one_form b.text c d (subst (λ (t : List ℕ). IsCircuitOf t c) same a.reads) b.reads
@@ -91,7 +91,7 @@ due_unique words held s t a b =
     let due : IsDueFor (held.file b.name) b.machine s = subst (λ (m : MachineData). IsDueFor (held.file b.name) m s) machine moved in
     due_one (held.file b.name) b.machine s t due b.due
 
-held_reads : (held : Holding) (name : List ℕ) (circuit : CircuitData) → HoldsCircuit (Some held) name circuit → Reads (held.file name) circuit
+held_reads : (held : Holding) (name : List ℕ) (circuit : CircuitData) → HoldsCircuit (Some held) name circuit → ReadsAs (held.file name) circuit
 held_reads held name circuit h = record { text = h.text; held = h.held; within = h.within; reads = h.reads }
 
 -- what was written whole was due

@@ -23,7 +23,7 @@ pub record IsNoCircuit (file : Option (List ℕ)) : Type 0 where
   pub refused : IsRefused text at kind
 
 -- the file is within the limit and reads as this circuit
-pub record Reads (file : Option (List ℕ)) (circuit : CircuitData) : Type 0 where
+pub record ReadsAs (file : Option (List ℕ)) (circuit : CircuitData) : Type 0 where
   pub text : List ℕ
   pub held : file ≡ Some text
   pub within : length text ≤ circuit_limit
@@ -32,13 +32,13 @@ pub record Reads (file : Option (List ℕ)) (circuit : CircuitData) : Type 0 whe
 -- the file reads as a circuit that needs more qubits than the machine takes
 pub record IsTooWide (file : Option (List ℕ)) (m : MachineData) : Type 0 where
   pub circuit : CircuitData
-  pub is_read : Reads file circuit
+  pub is_read : ReadsAs file circuit
   pub wide : slots_of m < circuit.qubits
 
 -- the file reads as a circuit within the machine's slots
 pub record IsWithinSlots (file : Option (List ℕ)) (m : MachineData) : Type 0 where
   pub circuit : CircuitData
-  pub is_read : Reads file circuit
+  pub is_read : ReadsAs file circuit
   pub fits : circuit.qubits ≤ slots_of m
 
 -- the status for a file and a machine, if no fault rises and memory is found: 3 where the file is not held,

@@ -5,7 +5,7 @@ ghost use Rattle.qccd_io.specs.Faults.{Rose};
 ghost use Rattle.qccd_io.specs.Sink.{appended, TookPrefix};
 ghost use Rattle.qccd_machine.specs.Preset.{single};
 ghost use Rattle.tracer.specs.Report.{report_text};
-ghost use Rattle.one_trap.specs.Plain.{IsPlain};
+ghost use Rattle.qasm_reader.specs.Reading.{IsPlain};
 ghost use Rattle.one_trap.specs.Program.{in_one_trap};
 ghost use Rattle.qccd_top.specs.Report.{IsReportFault};
 

@@ -2,6 +2,7 @@
 
 ghost use Rattle.std.specs.Prelude.{◌≡◌, ◌≢◌, ◌↔◌, ◌⊎◌, ◌<◌, ◌≤◌, ◌-◌, ◌^◌, ℕ, Some, None, OnOk, IfErr, map, string_bytes};
 ghost use Rattle.qccd_io.specs.Faults.{Rose};
+ghost use Rattle.qccd_io.specs.Sink.{Further};
 ghost use Rattle.qccd_io.specs.Shelf.{Holding, NoneIsOut, HoldsTheSame};
 ghost use Rattle.qccd_words.specs.Words.{request_of};
 ghost use Rattle.qccd_top.specs.Due.{IsDue};
@@ -58,6 +59,7 @@ pub fn run<R: Threads + Sync, F: Shelf, O: Sink, E: Sink, P: Post>(
     ensures shelf_count { F.faults shelf.old ≤ F.faults shelf.new }
     ensures out_count { O.faults out.old ≤ O.faults out.new }
     ensures err_count { E.faults err.old ≤ E.faults err.new }
+    ensures err_further { Further (E.behind err.old) (E.behind err.new) }
 {
     match answer(alloc, words, shelf, out) {
         Ok(()) => Status(0),

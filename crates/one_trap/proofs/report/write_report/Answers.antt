@@ -6,7 +6,7 @@ use Rattle.qccd_machine.specs.Machine.{MachineData}
 use Rattle.qccd_machine.specs.Preset.{single}
 use Rattle.tracer.specs.Report.{report_text}
 use Rattle.one_trap.specs.Program.{in_one_trap}
-use Rattle.one_trap.specs.Plain.{IsPlain}
+use Rattle.qasm_reader.specs.Reading.{IsPlain}
 use Rattle.one_trap.specs.Lines.{sent_text}
 use Rattle.one_trap.proofs.Pieces.{report-sent}
 use Rattle.one_trap.proofs.Three.{Failed}
