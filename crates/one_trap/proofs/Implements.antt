@@ -5,6 +5,7 @@ use Rattle.std.specs.List.{range_with_len, enumerate_from, AllByRecursion}
 use Rattle.std.proofs.lemmas.List.{length-map}
 use Rattle.std.proofs.lemmas.List.Elements.{recursion_from_All, All-from_recursion}
 use Rattle.std.proofs.lemmas.List.FromFn.{length-map-range_with_len}
+use Rattle.qccd_base.specs.Names.{ion}
 use Rattle.qccd_base.specs.declared.names.Ion.{Ion}
 use Rattle.qccd_circuit.specs.declared.kinds.ItemKind.TheVariants.{Barrier}
 use Rattle.qccd_circuit.specs.Item.{ItemData}
@@ -14,7 +15,7 @@ use Rattle.op_table.specs.Op.{IsOp}
 use Rattle.op_table.specs.State.{State, IsSafe}
 use Rattle.claim_core.specs.Program.{IsStart, opening_of, before}
 use Rattle.claim_core.specs.Implements.{Implements, KeepsBounds}
-use Rattle.one_trap.specs.Program.{op_of, ion, in_one_trap}
+use Rattle.one_trap.specs.Program.{op_of, in_one_trap}
 use Rattle.one_trap.proofs.Ranges.{count_by-map}
 use Rattle.one_trap.proofs.Row.{still, opening-row, safe-row}
 use Rattle.one_trap.proofs.Legal.{run-row, after-take, items_in-items}

@@ -3,6 +3,7 @@ use Rattle.std.proofs.Common.{◌≡◌, ℕ, zero, suc, ◌+◌, List, [], ◌�
 use Rattle.std.specs.Prelude.{flat_map, zip, codes, decimal}
 use Rattle.std.specs.List.{range_with_len, AllByRecursion, concat}
 use Rattle.std.proofs.lemmas.List.Elements.{recursion_from_All}
+use Rattle.qccd_base.specs.Line.{line}
 use Rattle.qccd_base.specs.declared.names.Qubit.{Qubit}
 use Rattle.qccd_base.specs.declared.names.Bit.{Bit}
 use Rattle.qccd_base.specs.declared.times.Times.{Times}
@@ -11,7 +12,7 @@ use Rattle.qccd_circuit.specs.Circuit.{CircuitData}
 use Rattle.qccd_machine.specs.Machine.{MachineData}
 use Rattle.qccd_machine.specs.Preset.{single}
 use Rattle.transport_asm.specs.OpText.{next_word, operand_text, angles_text, bit_text}
-use Rattle.tracer.specs.Report.{line, labelled, size_line, op_line, report_text}
+use Rattle.tracer.specs.Report.{labelled, size_line, op_line, report_text}
 use Rattle.one_trap.specs.Program.{in_one_trap}
 use Rattle.qasm_reader.specs.Reading.{IsPlainItem, IsPlain}
 use Rattle.one_trap.specs.Lines.{item_time, timed_item, op_lines, end_time, pair_text, end_words, gates_in, gate_counts, one_trap_text, start_words, operand_word, gate_line, gate_lines, sizes, pair_word, totals, sent_text}

@@ -5,10 +5,10 @@ use Rattle.std.specs.List.{range_with_len, prefix_len}
 use Rattle.std.proofs.lemmas.Bool.{lt-ltb}
 use Rattle.std.proofs.lemmas.Bool.Decides.{nat_tests}
 use Rattle.std.proofs.lemmas.List.FromFn.{length-map-range_with_len}
+use Rattle.qccd_base.specs.Names.{ion}
 use Rattle.qccd_machine.specs.Machine.{MachineData}
 use Rattle.qccd_base.specs.declared.names.Ion.{Ion}
 use Rattle.op_table.specs.State.{Spot, InTrap, Stand, State, is_in, is_at, is_on, is_within, ions_in, qubit_at, spot_from, opening, IsSafe}
-use Rattle.one_trap.specs.Program.{ion}
 use Rattle.one_trap.proofs.Ranges.{count_by-map, map-range, count_range-none, count_range-all, count_range-one, eqb-apart}
 
 abbrev pub stand : ℕ → Stand

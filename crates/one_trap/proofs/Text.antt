@@ -5,6 +5,8 @@ use Rattle.std.specs.List.{range_with_len, enumerate_from, AllByRecursion}
 use Rattle.std.specs.Fmt.{digits}
 use Rattle.std.proofs.lemmas.List.Folds.{flat_map-map}
 use Rattle.std.proofs.lemmas.List.Elements.{recursion_from_All}
+use Rattle.qccd_base.specs.Line.{line}
+use Rattle.qccd_base.specs.Names.{ion}
 use Rattle.qccd_base.specs.declared.names.Ion.{Ion}
 use Rattle.qccd_circuit.specs.declared.kinds.ItemKind.TheVariants.{Gate1, Gate2}
 use Rattle.qccd_circuit.specs.Item.{ItemData}
@@ -13,8 +15,8 @@ use Rattle.qccd_machine.specs.Preset.{single}
 use Rattle.op_table.specs.State.{Stand, State, is_at}
 use Rattle.claim_core.specs.Program.{opening_of, end_of}
 use Rattle.transport_asm.specs.OpText.{next_word}
-use Rattle.tracer.specs.Report.{line, entry_text, numbered_ions, chain_of, end_line, end_lines, item_column, column_of, counts_line, report_text, start_line}
-use Rattle.one_trap.specs.Program.{op_of, ion, in_one_trap}
+use Rattle.tracer.specs.Report.{entry_text, numbered_ions, chain_of, end_line, end_lines, item_column, column_of, counts_line, report_text, start_line}
+use Rattle.one_trap.specs.Program.{op_of, in_one_trap}
 use Rattle.qasm_reader.specs.Reading.{IsPlainItem, IsPlain}
 use Rattle.one_trap.specs.Lines.{start_words, end_words, gates_in, gate_counts, one_trap_text}
 use Rattle.one_trap.proofs.Ranges.{eqb-apart, count_by-cons}

@@ -1,6 +1,7 @@
 -- What the report of a circuit of gates in one trap comes down to: one running clock, and ions that stay.
 use Rattle.std.specs.Prelude.{ℕ, ◌+◌, ◌==◌, List, [], ◌∷◌, ◌++◌, length, flat_map, count_by, codes, decimal}
 use Rattle.std.specs.List.{range_with_len, concat}
+use Rattle.qccd_base.specs.Line.{line}
 use Rattle.qccd_base.specs.declared.names.Qubit.{Qubit}
 use Rattle.qccd_base.specs.declared.times.Times.{Times}
 use Rattle.qccd_circuit.specs.Item.{ItemData}
@@ -9,7 +10,7 @@ use Rattle.qccd_machine.specs.Machine.{MachineData}
 use Rattle.time_heat.specs.Duration.{duration_of}
 use Rattle.op_table.specs.Clock.{Timed, item_work}
 use Rattle.transport_asm.specs.OpText.{next_word}
-use Rattle.tracer.specs.Report.{line, labelled, size_line, op_line, item_column}
+use Rattle.tracer.specs.Report.{labelled, size_line, op_line, item_column}
 use Rattle.one_trap.specs.Program.{op_of, positions_of, in_one_trap}
 
 -- how long an item takes

@@ -1,7 +1,7 @@
 -- The transport program of a circuit on a machine of one trap.
 use Rattle.std.specs.Prelude.{ℕ, List, [], ◌∷◌, map}
 use Rattle.std.specs.List.{enumerate_from, range_with_len}
-use Rattle.qccd_base.specs.declared.names.Ion.{Ion}
+use Rattle.qccd_base.specs.Names.{ion}
 use Rattle.qccd_base.specs.declared.names.TrapId.{TrapId}
 use Rattle.qccd_circuit.specs.Item.{ItemData}
 use Rattle.qccd_circuit.specs.Circuit.{CircuitData}
@@ -12,9 +12,6 @@ use Rattle.claim_core.specs.Program.{ProgramData}
 
 abbrev pub the_trap : TrapId
 the_trap = record { 0 = 0 }
-
-abbrev pub ion : ℕ → Ion
-ion n = record { 0 = n }
 
 -- qubit q stands at position q
 abbrev pub positions_of : ItemData → List ℕ

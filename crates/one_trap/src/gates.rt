@@ -1,13 +1,13 @@
 //! The lines of gates, one after another on one clock.
 
-ghost use Rattle.std.specs.Prelude.{◌≡◌, ◌≤◌, ◌<◌, ◌++◌, All, IfOk, OnOk, OnErr, codes, decimal, flat_map, length};
+ghost use Rattle.std.specs.Prelude.{◌≡◌, ◌≤◌, ◌<◌, All, IfOk, OnOk, OnErr, flat_map, length};
 ghost use Rattle.qccd_base.specs.Times.{times_of};
 ghost use Rattle.qccd_io.specs.Faults.{Rose};
 ghost use Rattle.qccd_io.specs.Sink.{appended, TookPrefix, Further};
 ghost use Rattle.op_table.specs.Clock.{item_work};
 ghost use Rattle.one_trap.specs.Program.{positions_of};
-ghost use Rattle.qasm_reader.specs.Reading.{IsPlainItem, IsPlain};
-ghost use Rattle.one_trap.specs.Lines.{operand_word, gate_head, gate_line, gate_lines, end_time, item_time};
+ghost use Rattle.qasm_reader.specs.Reading.{IsPlainItem};
+ghost use Rattle.one_trap.specs.Lines.{operand_word, gate_head, gate_line, gate_lines, end_time};
 
 use qccd_base::{Qubit, Times, number_text};
 use qccd_circuit::{Item, ItemKind};

@@ -1,15 +1,14 @@
 //! The report of a circuit of gates on a machine of one trap.
 
-ghost use Rattle.std.specs.Prelude.{◌≡◌, ◌≤◌, ◌<◌, ◌++◌, ℕ, All, IfOk, OnOk, OnErr, codes, decimal, flat_map, length, get_or};
+ghost use Rattle.std.specs.Prelude.{◌≡◌, ◌≤◌, ◌++◌, OnOk, OnErr, codes, flat_map, get_or};
 ghost use Rattle.std.specs.List.{range_with_len};
 ghost use Rattle.qccd_io.specs.Faults.{Rose};
 ghost use Rattle.qccd_io.specs.Sink.{appended, TookPrefix, Further};
-ghost use Rattle.qccd_circuit.specs.Circuit.{IsCircuit};
 ghost use Rattle.qccd_machine.specs.Preset.{single};
 ghost use Rattle.tracer.specs.Report.{report_text, item_column};
 ghost use Rattle.one_trap.specs.Program.{in_one_trap};
 ghost use Rattle.qasm_reader.specs.Reading.{IsPlain};
-ghost use Rattle.one_trap.specs.Lines.{start_words, pair_word, sizes, ops_line, opening_text, totals, closing_text, gates_in, end_time, sent_text};
+ghost use Rattle.one_trap.specs.Lines.{start_words, pair_word, sizes, ops_line, opening_text, totals, gates_in, sent_text};
 
 use crate::gates::send_gates;
 use qccd_base::number_text;
@@ -211,6 +210,7 @@ fn send_report<S: Sink>(sink: &mut S, circuit: &Circuit, machine: &Machine) -> R
     let items = circuit.items();
     let qubits = circuit.qubits();
     let times = machine.times();
+    // The machine is valid, as the contract of its count of traps tells.
     let _valid = machine.traps();
     let ones = count_in(items, 7);
     let twos = count_in(items, 8);
@@ -235,6 +235,7 @@ pub fn write_report<S: Sink>(
     ensures count { S.faults sink.old ≤ S.faults sink.new }
     ensures further { Further (S.behind sink.old) (S.behind sink.new) }
 {
+    // The machine is valid, as the contract of its count of traps tells.
     let _valid = machine.traps();
     send_report(sink, circuit, machine)
 }

@@ -1,13 +1,12 @@
 -- A machine of two traps and a state of it, as a worked example.
-use Rattle.std.specs.Prelude.{ℕ, List, [], ◌∷◌, None, codes}
+use Rattle.std.specs.Prelude.{ℕ, List, [], ◌∷◌}
+use Rattle.qccd_base.specs.Names.{qubit}
 use Rattle.qccd_base.specs.Times.{usual}
-use Rattle.qccd_base.specs.declared.names.Qubit.{Qubit}
 use Rattle.qccd_base.specs.declared.names.Res.{Res}
 use Rattle.qccd_base.specs.declared.names.Res.TheVariants as res
 use Rattle.qccd_base.specs.declared.names.End.TheVariants.{Left, Right}
 use Rattle.qccd_base.specs.declared.names.SegEnd.TheVariants.{A}
-use Rattle.qccd_circuit.specs.declared.kinds.ItemKind.TheVariants as kind
-use Rattle.qccd_circuit.specs.Item.{ItemData}
+use Rattle.qccd_circuit.specs.Example.{h_on, measure_into}
 use Rattle.qccd_machine.specs.declared.place.Place.TheVariants.{TrapEnd}
 use Rattle.qccd_machine.specs.Machine.{MachineData}
 use Rattle.op_table.specs.declared.kinds.OpKind.{OpKind}
@@ -22,9 +21,6 @@ pair = record {
   segments = (TrapEnd (record { 0 = 0 }) Right, TrapEnd (record { 0 = 1 }) Left) ∷ [];
   times = usual;
 }
-
-abbrev pub qubit : ℕ → Qubit
-qubit n = record { 0 = n }
 
 abbrev pub stand : ℕ → ℕ → ℕ → Stand
 stand t k q = record { spot = InTrap t k; qubit = qubit q }
@@ -42,17 +38,11 @@ left_on_segment = record { spot = OnSegment 0 A 233; qubit = qubit 0 }
 abbrev pub trap_and_segment : List Res
 trap_and_segment = res.Trap (record { 0 = 0 }) ∷ res.Seg (record { 0 = 0 }) ∷ []
 
-abbrev pub measurement : ItemData
-measurement = record { kind = kind.Measure; name = codes "measure"; angles = []; qubits = qubit 0 ∷ []; bits = record { 0 = 0 } ∷ []; cond = None }
-
 abbrev pub measured : OpKind
-measured = Item 0 (record { 0 = 0 }) measurement (2 ∷ [])
+measured = Item 0 (record { 0 = 0 }) (measure_into 0 0) (2 ∷ [])
 
 abbrev pub trap_and_bit : List Res
 trap_and_bit = res.Trap (record { 0 = 0 }) ∷ res.Bit (record { 0 = 0 }) ∷ []
 
-abbrev pub hadamard : ItemData
-hadamard = record { kind = kind.Gate1; name = codes "h"; angles = []; qubits = qubit 3 ∷ []; bits = []; cond = None }
-
 abbrev pub gate_elsewhere : OpKind
-gate_elsewhere = Item 1 (record { 0 = 1 }) hadamard (0 ∷ [])
+gate_elsewhere = Item 1 (record { 0 = 1 }) (h_on 3) (0 ∷ [])

@@ -1,8 +1,8 @@
 -- The circuit that prepares a Bell pair, and its text.
 use Rattle.std.specs.Prelude.{ℕ, List, [], ◌∷◌, ◌++◌, codes}
+use Rattle.qccd_base.specs.Line.{line}
 use Rattle.qccd_circuit.specs.Circuit.{CircuitData}
 use Rattle.qccd_circuit.specs.Example.{cx_on, h_on}
-use Rattle.qasm_reader.specs.FirstForm.{line}
 
 abbrev pub bell : CircuitData
 bell = record { qubits = 2; bits = 0; items = h_on 0 ∷ cx_on 0 1 ∷ [] }

@@ -4,6 +4,7 @@ use Rattle.std.specs.Prelude.{◌≡◌, ℕ, ◌<◌, ◌≤◌, Bool, false, �
 use Rattle.std.specs.Char.{is_ascii_lowercase}
 use Rattle.std.specs.List.{list_any, list_all, flat_map, join_with_byte}
 use Rattle.std.specs.Str.{bytes_eq}
+use Rattle.qccd_base.specs.Line.{line}
 use Rattle.qccd_base.specs.declared.names.Qubit.{Qubit}
 use Rattle.qccd_circuit.specs.declared.kinds.ItemKind.{ItemKind}
 use Rattle.qccd_circuit.specs.declared.kinds.ItemKind.TheVariants.{Gate1, Gate2, Measure, Reset, Barrier}
@@ -28,10 +29,6 @@ is_small_word (c ∷ cs) = is_ascii_lowercase c && list_all is_name_byte cs
 -- such a word that is not reserved
 abbrev pub IsIdentifier : List ℕ → Type 0
 IsIdentifier word = IsTrue (is_small_word word) × (is_reserved word ≡ false)
-
--- a text, and the end of its line
-abbrev pub line : List ℕ → List ℕ
-line text = text ++ 10 ∷ []
 
 -- a cell of the register
 abbrev pub cell_text : List ℕ → Qubit → List ℕ

@@ -1,10 +1,11 @@
 -- The parts of the form, each with the text that follows it.
 use Rattle.std.specs.Prelude.{◌≡◌, ℕ, ◌≤◌, List, ◌∷◌, ◌++◌, length, All, codes, decimal}
 use Rattle.std.specs.List.{flat_map}
+use Rattle.qccd_base.specs.Line.{line}
 use Rattle.qccd_circuit.specs.Circuit.{CircuitData}
 use Rattle.qasm_reader.specs.declared.gates.Gate.{Gate}
 use Rattle.qasm_reader.specs.declared.gates.Gate.TheVariants.{H, X, Cx}
-use Rattle.qasm_reader.specs.FirstForm.{IsFormItem, gate_line, line}
+use Rattle.qasm_reader.specs.FirstForm.{IsFormItem, gate_line}
 
 -- a number and its closing bracket
 abbrev pub index_then : ℕ → List ℕ → List ℕ

@@ -1,13 +1,12 @@
 //! The lines before the gates.
 
 ghost use Rattle.std.specs.Prelude.{◌≡◌, ◌↔◌, ℕ, ◌≤◌, List, IfSome, IsSomeAnd, IsTrue};
-ghost use Rattle.std.specs.List.{list_all};
 ghost use Rattle.std.specs.Str.{bytes_eq};
-ghost use Rattle.qccd_circuit.specs.Item.{is_name_byte};
 ghost use Rattle.qasm_reader.specs.FirstForm.{IsIdentifier, is_reserved, is_small_word};
 ghost use Rattle.qasm_reader.specs.Spelling.{head_then};
 
 use crate::pieces::{read_index, split_at_byte, strip, strip_opening};
+use qccd_circuit::are_name_bytes;
 
 /// The register of a circuit, and the lines that follow its declaration.
 #[derive(Clone, Copy, Debug)]
@@ -19,20 +18,6 @@ pub(crate) struct Head<'a> {
 
 // The most qubits of a circuit.
 const QUBITS: u64 = 256;
-
-// Whether the byte may follow the first of a name.
-fn is_name_byte(byte: u8) -> bool
-    ensures { result ≡ is_name_byte byte }
-{
-    byte.is_ascii_alphanumeric() || byte == b'_'
-}
-
-// Whether each byte may.
-fn are_name_bytes(bytes: &[u8]) -> bool
-    ensures { result ≡ list_all is_name_byte bytes.now }
-{
-    bytes.iter().all(|byte| is_name_byte(*byte))
-}
 
 // Whether the bytes are a small letter, and then letters, digits and underscores.
 fn is_small_word(bytes: &[u8]) -> bool

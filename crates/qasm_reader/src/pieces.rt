@@ -2,7 +2,7 @@
 //!
 //! Each function tells both ways: what it gives is there, and what is there it gives.
 
-ghost use Rattle.std.specs.Prelude.{◌≡◌, ◌≢◌, ◌==◌, ℕ, ◌^◌, ◌<◌, List, ◌∷◌, ◌++◌, All, IfSome, IsSomeAnd, decimal, position};
+ghost use Rattle.std.specs.Prelude.{◌≡◌, ◌≢◌, ◌==◌, ℕ, ◌^◌, ◌<◌, List, ◌∷◌, ◌++◌, All, IfSome, IsSomeAnd, position};
 ghost use Rattle.qasm_reader.specs.Spelling.{index_then, opening};
 
 use qccd_base::read_number;

@@ -1,3 +1,5 @@
 pub mod Greatest
+pub mod Line
+pub mod Names
 pub mod Resource
 pub mod Times

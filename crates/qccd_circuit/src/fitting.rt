@@ -46,8 +46,8 @@ fn is_name_byte(byte: u8) -> bool
     byte.is_ascii_alphanumeric() || byte == b'_'
 }
 
-// Whether each byte may.
-fn are_name_bytes(bytes: &[u8]) -> bool
+/// Whether each byte may follow the first of a name: a letter, a digit or an underscore.
+pub fn are_name_bytes(bytes: &[u8]) -> bool
     ensures { result ≡ list_all is_name_byte bytes.now }
 {
     bytes.iter().all(|byte| is_name_byte(*byte))

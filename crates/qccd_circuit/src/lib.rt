@@ -10,7 +10,7 @@ mod texts;
 pub mod worked;
 
 pub use circuits::Circuit;
-pub use fitting::fits;
+pub use fitting::{are_name_bytes, fits};
 pub use items::Item;
 pub use kinds::{Cond, ItemKind};
 pub use sharing::shares;

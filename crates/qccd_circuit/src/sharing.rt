@@ -2,7 +2,7 @@
 
 ghost use Rattle.std.specs.Prelude.{◌≡◌, ◌+◌, ◌≤◌};
 ghost use Rattle.std.specs.List.{list_any};
-ghost use Rattle.qccd_circuit.specs.Item.{bits_from, bits_of, cond_bits, has_qubit};
+ghost use Rattle.qccd_circuit.specs.Item.{bits_from, bits_of, cond_bits};
 ghost use Rattle.qccd_circuit.specs.Sharing.{has_bit, share_qubit, shares};
 
 use crate::fitting::has_qubit;
@@ -65,6 +65,7 @@ fn share_written(bits: &[Bit], item: &Item) -> bool
 fn share_read(a: &Item, b: &Item) -> bool
     ensures { result ≡ list_any (has_bit (bits_of b.now)) (cond_bits a.now.cond) }
 {
+    // The item fits, as the contract of its kind tells.
     let _kind = a.kind();
     match a.cond() {
         None => false,

@@ -1,4 +1,4 @@
-ghost use Rattle.std.specs.Prelude.{◌≡◌, ℕ, ◌<◌, ◌≤◌, ◌++◌, ◌∷◌, List, [], length, take, drop, Option, IfOk, OnOk, OnErr};
+ghost use Rattle.std.specs.Prelude.{◌≡◌, ℕ, ◌<◌, ◌≤◌, ◌++◌, ◌∷◌, List, [], length, take, drop, IfOk, OnOk, OnErr};
 ghost use Rattle.qccd_io.specs.Faults.{Rose};
 ghost use Rattle.qccd_io.specs.Sink.{appended, known_length, TookPrefix, Further};
 

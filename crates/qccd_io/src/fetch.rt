@@ -1,4 +1,4 @@
-ghost use Rattle.std.specs.Prelude.{◌≡◌, ℕ, ◌+◌, ◌<◌, ◌≤◌, ◌⊎◌, Option, IfOk, IfErr, length, vec_len};
+ghost use Rattle.std.specs.Prelude.{◌≡◌, ◌+◌, ◌<◌, ◌≤◌, ◌⊎◌, Option, IfOk, IfErr, length, vec_len};
 ghost use Rattle.qccd_io.specs.Faults.{Rose};
 ghost use Rattle.qccd_io.specs.Fetch.{MatchFault, SameFile, HasLeft, HasMoreLeft, HoldsFile, HoldsMoreThan};
 ghost use Rattle.qccd_io.specs.Shelf.{NoneIsOut, Lacks, HoldsTheSame};

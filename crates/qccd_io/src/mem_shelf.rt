@@ -23,7 +23,6 @@ pub struct MemSource {
 impl Model for MemSource {
     ghost use Rattle.std.specs.Prelude.{◌≤◌, drop, length, string_bytes};
     ghost use Rattle.qccd_io.specs.Stock.{Loan};
-    ghost use Rattle.qccd_io.specs.Source.{Telling};
 
     ghost Value = { Loan };
 

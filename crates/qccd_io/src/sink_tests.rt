@@ -1,4 +1,4 @@
-ghost use Rattle.std.specs.Prelude.{◌≡◌, ◌<◌, ◌≤◌, ◌++◌, IfOk, OnOk, OnErr};
+ghost use Rattle.std.specs.Prelude.{◌≡◌, ◌≤◌, ◌++◌, IfOk, OnOk, OnErr};
 ghost use Rattle.qccd_io.specs.Faults.{Rose};
 ghost use Rattle.qccd_io.specs.Sink.{appended, TookPrefix, Further};
 

@@ -1,6 +1,6 @@
 //! Numbers and words as they stand in texts.
 
-ghost use Rattle.std.specs.Prelude.{◌≡◌, ◌≤◌, ◌++◌, List, OnOk, OnErr, flat_map, decimal};
+ghost use Rattle.std.specs.Prelude.{◌≡◌, ◌≤◌, ◌++◌, OnOk, OnErr, flat_map, decimal};
 ghost use Rattle.qccd_io.specs.Faults.{Rose};
 ghost use Rattle.qccd_io.specs.Sink.{appended, TookPrefix, Further};
 

@@ -4,7 +4,7 @@ ghost use Rattle.qccd_base.specs.Greatest.{greatest};
 ghost use Rattle.qccd_machine.specs.Preset.{single};
 
 use crate::place::{Place, Preset};
-use qccd_base::{NoMemory, Times, TrapId};
+use qccd_base::{NoMemory, Times};
 use std::alloc::Global;
 use std::marker::Model;
 

@@ -1,8 +1,7 @@
 //! Worked examples over the definitions, each a function whose contract is the fact.
 
-ghost use Rattle.std.specs.Prelude.{length, ◌≡◌, [], ◌∷◌, replicate};
-ghost use Rattle.qccd_base.specs.Times.{usual};
-ghost use Rattle.qccd_machine.specs.Machine.{MachineData, IsValid, slots_of, worst_of};
+ghost use Rattle.std.specs.Prelude.{length, ◌≡◌};
+ghost use Rattle.qccd_machine.specs.Machine.{IsValid, slots_of, worst_of};
 ghost use Rattle.qccd_machine.specs.Line.{line, stray};
 
 /// A line of 32 traps that hold two ions each takes 63 qubits, and one item takes at most 3,969

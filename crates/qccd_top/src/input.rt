@@ -1,6 +1,6 @@
 //! The circuit that a file holds.
 
-ghost use Rattle.std.specs.Prelude.{◌≡◌, ◌≤◌, IfOk, IfErr, vec_len};
+ghost use Rattle.std.specs.Prelude.{◌≤◌, IfOk, IfErr};
 ghost use Rattle.qccd_io.specs.Faults.{Rose};
 ghost use Rattle.qccd_io.specs.Shelf.{NoneIsOut, HoldsTheSame};
 ghost use Rattle.qasm_reader.specs.Reading.{IsPlain};

@@ -1,25 +1,11 @@
 -- The Bell pair on one trap, as a worked example.
-use Rattle.std.specs.Prelude.{ℕ, List, [], ◌∷◌, None, codes, flat_map}
-use Rattle.qccd_base.specs.declared.names.Ion.{Ion}
-use Rattle.qccd_base.specs.declared.names.Qubit.{Qubit}
-use Rattle.qccd_circuit.specs.declared.kinds.ItemKind.TheVariants.{Gate1, Gate2}
-use Rattle.qccd_circuit.specs.Item.{ItemData}
+use Rattle.std.specs.Prelude.{ℕ, List, [], ◌∷◌, codes, flat_map}
+use Rattle.qccd_base.specs.Line.{line}
+use Rattle.qccd_base.specs.Names.{ion}
+use Rattle.qccd_circuit.specs.Example.{h_on, cx_on}
 use Rattle.qccd_machine.specs.Preset.{single}
 use Rattle.op_table.specs.declared.kinds.OpKind.TheVariants.{Item}
 use Rattle.claim_core.specs.Program.{ProgramData}
-use Rattle.tracer.specs.Report.{line}
-
-abbrev pub qubit : ℕ → Qubit
-qubit n = record { 0 = n }
-
-abbrev pub ion : ℕ → Ion
-ion n = record { 0 = n }
-
-abbrev pub hadamard : ItemData
-hadamard = record { kind = Gate1; name = codes "h"; angles = []; qubits = qubit 0 ∷ []; bits = []; cond = None }
-
-abbrev pub controlled_not : ItemData
-controlled_not = record { kind = Gate2; name = codes "cx"; angles = []; qubits = qubit 0 ∷ qubit 1 ∷ []; bits = []; cond = None }
 
 -- a Hadamard gate on qubit 0 and a controlled not from it to qubit 1, in one trap
 abbrev pub bell : ProgramData
@@ -28,7 +14,7 @@ bell = record {
   qubits = 2;
   bits = 0;
   start = (ion 0 ∷ ion 1 ∷ []) ∷ [];
-  ops = Item 0 (record { 0 = 0 }) hadamard (0 ∷ []) ∷ Item 1 (record { 0 = 0 }) controlled_not (0 ∷ 1 ∷ []) ∷ [];
+  ops = Item 0 (record { 0 = 0 }) (h_on 0) (0 ∷ []) ∷ Item 1 (record { 0 = 0 }) (cx_on 0 1) (0 ∷ 1 ∷ []) ∷ [];
 }
 
 abbrev pub bell_lines : List (List ℕ)

@@ -2,6 +2,7 @@
 use Rattle.std.specs.Prelude.{ℕ, Bool, ◌==◌, List, [], ◌∷◌, ◌++◌, length, map, filter, find, count_by, flat_map, filter_map, codes, decimal}
 use Rattle.std.specs.List.{enumerate_from, range_with_len}
 use Rattle.qccd_base.specs.Greatest.{greatest}
+use Rattle.qccd_base.specs.Line.{line}
 use Rattle.qccd_base.specs.declared.names.Ion.{Ion}
 use Rattle.qccd_base.specs.declared.names.SegEnd.{SegEnd}
 use Rattle.qccd_base.specs.declared.names.SegEnd.TheVariants.{A, B}
@@ -14,10 +15,6 @@ use Rattle.op_table.specs.Clock.{Timed, timed}
 use Rattle.claim_core.specs.Program.{ProgramData, end_of}
 use Rattle.transport_asm.specs.OpText.{next_word, qubit_text, op_text}
 use Rattle.tracer.specs.TimeOrder.{time_order}
-
--- a text and the line feed that ends its line
-abbrev pub line : List ℕ → List ℕ
-line text = text ++ 10 ∷ []
 
 -- the words of a line, before the numbers that they name
 abbrev pub labelled : List ℕ → ℕ → List ℕ
