@@ -1,3 +1,4 @@
 pub mod TimeOrder
 pub mod Report
 pub mod Bell
+pub mod Scattered
