@@ -1,2 +1,3 @@
 pub mod Duration
 pub mod Heat
+pub mod Sums
