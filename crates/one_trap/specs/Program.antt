@@ -1,7 +1,7 @@
 -- The transport program of a circuit on a machine of one trap.
 use Rattle.std.specs.Prelude.{ℕ, List, [], ◌∷◌, map}
 use Rattle.std.specs.List.{enumerate_from, range_with_len}
-use Rattle.qccd_base.specs.Names.{ion}
+use Rattle.qccd_base.specs.Names.{ion, trap}
 use Rattle.qccd_base.specs.declared.names.TrapId.{TrapId}
 use Rattle.qccd_circuit.specs.Item.{ItemData}
 use Rattle.qccd_circuit.specs.Circuit.{CircuitData}
@@ -11,7 +11,7 @@ use Rattle.op_table.specs.declared.kinds.OpKind.TheVariants.{Item}
 use Rattle.claim_core.specs.Program.{ProgramData}
 
 abbrev pub the_trap : TrapId
-the_trap = record { 0 = 0 }
+the_trap = trap 0
 
 -- qubit q stands at position q
 abbrev pub positions_of : ItemData → List ℕ

@@ -1,6 +1,6 @@
 -- A machine of two traps and a state of it, as a worked example.
 use Rattle.std.specs.Prelude.{ℕ, List, [], ◌∷◌}
-use Rattle.qccd_base.specs.Names.{qubit}
+use Rattle.qccd_base.specs.Names.{qubit, bit, trap, segment}
 use Rattle.qccd_base.specs.Times.{usual}
 use Rattle.qccd_base.specs.declared.names.Res.{Res}
 use Rattle.qccd_base.specs.declared.names.Res.TheVariants as res
@@ -18,7 +18,7 @@ abbrev pub pair : MachineData
 pair = record {
   capacities = 5 ∷ 5 ∷ [];
   junctions = 0;
-  segments = (TrapEnd (record { 0 = 0 }) Right, TrapEnd (record { 0 = 1 }) Left) ∷ [];
+  segments = (TrapEnd (trap 0) Right, TrapEnd (trap 1) Left) ∷ [];
   times = usual;
 }
 
@@ -30,19 +30,19 @@ abbrev pub hot_three : State
 hot_three = record { bits = 1; ions = stand 0 2 0 ∷ stand 0 0 1 ∷ stand 0 1 2 ∷ stand 1 0 3 ∷ []; heats = 400 ∷ 0 ∷ [] }
 
 abbrev pub split_right : OpKind
-split_right = Split (record { 0 = 0 }) Right (record { 0 = 0 })
+split_right = Split (trap 0) Right (segment 0)
 
 abbrev pub left_on_segment : Stand
 left_on_segment = record { spot = OnSegment 0 A 233; qubit = qubit 0 }
 
 abbrev pub trap_and_segment : List Res
-trap_and_segment = res.Trap (record { 0 = 0 }) ∷ res.Seg (record { 0 = 0 }) ∷ []
+trap_and_segment = res.Trap (trap 0) ∷ res.Seg (segment 0) ∷ []
 
 abbrev pub measured : OpKind
-measured = Item 0 (record { 0 = 0 }) (measure_into 0 0) (2 ∷ [])
+measured = Item 0 (trap 0) (measure_into 0 0) (2 ∷ [])
 
 abbrev pub trap_and_bit : List Res
-trap_and_bit = res.Trap (record { 0 = 0 }) ∷ res.Bit (record { 0 = 0 }) ∷ []
+trap_and_bit = res.Trap (trap 0) ∷ res.Bit (bit 0) ∷ []
 
 abbrev pub gate_elsewhere : OpKind
-gate_elsewhere = Item 1 (record { 0 = 1 }) (h_on 3) (0 ∷ [])
+gate_elsewhere = Item 1 (trap 1) (h_on 3) (0 ∷ [])

@@ -1,5 +1,6 @@
 -- Small items that the worked examples speak of.
 use Rattle.std.specs.Prelude.{ℕ, List, [], ◌∷◌, None, Some, Option, codes}
+use Rattle.qccd_base.specs.Names.{qubit, bit}
 use Rattle.qccd_base.specs.declared.names.Qubit.{Qubit}
 use Rattle.qccd_circuit.specs.declared.kinds.ItemKind.TheVariants.{Gate1, Gate2, Measure, Reset, Barrier}
 use Rattle.qccd_circuit.specs.declared.kinds.Cond.{Cond}
@@ -11,7 +12,7 @@ h_on q = record {
   kind = Gate1;
   name = codes "h";
   angles = [];
-  qubits = record { 0 = q } ∷ [];
+  qubits = qubit q ∷ [];
   bits = [];
   cond = None;
 }
@@ -22,7 +23,7 @@ cx_on p q = record {
   kind = Gate2;
   name = codes "cx";
   angles = [];
-  qubits = record { 0 = p } ∷ record { 0 = q } ∷ [];
+  qubits = qubit p ∷ qubit q ∷ [];
   bits = [];
   cond = None;
 }
@@ -33,8 +34,8 @@ measure_into q b = record {
   kind = Measure;
   name = codes "measure";
   angles = [];
-  qubits = record { 0 = q } ∷ [];
-  bits = record { 0 = b } ∷ [];
+  qubits = qubit q ∷ [];
+  bits = bit b ∷ [];
   cond = None;
 }
 
@@ -44,7 +45,7 @@ reset_of q = record {
   kind = Reset;
   name = codes "reset";
   angles = [];
-  qubits = record { 0 = q } ∷ [];
+  qubits = qubit q ∷ [];
   bits = [];
   cond = None;
 }
@@ -62,7 +63,7 @@ barrier_over qubits = record {
 
 -- the condition that so many bits from the first have the value 1
 abbrev pub bits_are_one : ℕ → ℕ → Option Cond
-bits_are_one first count = Some (record { first = record { 0 = first }; count = count; value = 1 })
+bits_are_one first count = Some (record { first = bit first; count = count; value = 1 })
 
 -- an h under such a condition
 abbrev pub h_under : ℕ → ℕ → ℕ → ItemData

@@ -1,5 +1,6 @@
 use Rattle.std.specs.Prelude.{ℕ, ◌+◌, ◌-◌, [], ◌∷◌, map, replicate}
 use Rattle.std.specs.List.{range_with_len}
+use Rattle.qccd_base.specs.Names.{trap}
 use Rattle.qccd_base.specs.Times.{usual}
 use Rattle.qccd_base.specs.declared.names.End.TheVariants.{Left, Right}
 use Rattle.qccd_machine.specs.declared.place.Place.{Place}
@@ -8,7 +9,7 @@ use Rattle.qccd_machine.specs.Machine.{MachineData}
 
 -- segment i of a line: from the right end of trap i to the left end of the next
 abbrev pub link : ℕ → Place × Place
-link i = (TrapEnd (record { 0 = i }) Right, TrapEnd (record { 0 = i + 1 }) Left)
+link i = (TrapEnd (trap i) Right, TrapEnd (trap (i + 1)) Left)
 
 -- a line of traps of one capacity
 abbrev pub line : ℕ → ℕ → MachineData

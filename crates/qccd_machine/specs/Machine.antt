@@ -7,6 +7,7 @@ use Rattle.qccd_base.specs.declared.names.Res.{Res}
 use Rattle.qccd_base.specs.declared.names.Res.TheVariants as res
 use Rattle.qccd_base.specs.declared.times.Times.{Times}
 use Rattle.qccd_base.specs.Greatest.{greatest}
+use Rattle.qccd_base.specs.Names.{trap, junction}
 use Rattle.qccd_base.specs.Times.{times_of}
 use Rattle.qccd_machine.specs.declared.place.Place.{Place}
 use Rattle.qccd_machine.specs.declared.place.Place.TheVariants.{TrapEnd, Junction}
@@ -51,7 +52,7 @@ ends_at m p = count_by (same_place p) (end_places m)
 
 -- how many ends of segments a junction joins
 abbrev pub degree_of : MachineData → ℕ → ℕ
-degree_of m j = ends_at m (Junction (record { 0 = j }))
+degree_of m j = ends_at m (Junction (junction j))
 
 -- segment s joins the traps or junctions a and b
 abbrev pub Joins : MachineData → ℕ → Res → Res → Type 0
@@ -64,7 +65,7 @@ Leads m a [] b = a ≡ b
 Leads m a (s ∷ path) b = (mid : Res) × Joins m s a mid × Leads m mid path b
 
 abbrev pub first_trap : Res
-first_trap = res.Trap (record { 0 = 0 })
+first_trap = res.Trap (trap 0)
 
 -- there is a path from the first trap
 abbrev pub IsReached : MachineData → Res → Type 0

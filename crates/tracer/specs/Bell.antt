@@ -1,7 +1,7 @@
 -- The Bell pair on one trap, as a worked example.
 use Rattle.std.specs.Prelude.{ℕ, List, [], ◌∷◌, codes, flat_map}
 use Rattle.qccd_base.specs.Line.{line}
-use Rattle.qccd_base.specs.Names.{ion}
+use Rattle.qccd_base.specs.Names.{ion, trap}
 use Rattle.qccd_circuit.specs.Example.{h_on, cx_on}
 use Rattle.qccd_machine.specs.Preset.{single}
 use Rattle.op_table.specs.declared.kinds.OpKind.TheVariants.{Item}
@@ -14,7 +14,7 @@ bell = record {
   qubits = 2;
   bits = 0;
   start = (ion 0 ∷ ion 1 ∷ []) ∷ [];
-  ops = Item 0 (record { 0 = 0 }) (h_on 0) (0 ∷ []) ∷ Item 1 (record { 0 = 0 }) (cx_on 0 1) (0 ∷ 1 ∷ []) ∷ [];
+  ops = Item 0 (trap 0) (h_on 0) (0 ∷ []) ∷ Item 1 (trap 0) (cx_on 0 1) (0 ∷ 1 ∷ []) ∷ [];
 }
 
 abbrev pub bell_lines : List (List ℕ)

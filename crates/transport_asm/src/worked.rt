@@ -1,12 +1,12 @@
 //! Worked examples over the definitions, each a function whose contract is the fact.
 
 ghost use Rattle.std.specs.Prelude.{◌≡◌, [], ◌∷◌, codes};
-ghost use Rattle.qccd_base.specs.Names.{qubit};
+ghost use Rattle.qccd_base.specs.Names.{qubit, trap, segment, junction};
 ghost use Rattle.qccd_base.specs.declared.names.End.TheVariants.{Left, Right};
 ghost use Rattle.qccd_circuit.specs.Example.{barrier_over, cx_on, h_on, measure_into, reset_of};
 ghost use Rattle.op_table.specs.declared.kinds.OpKind.TheVariants.{Split, Move, Enter, Leave, Merge, Rot, GSwap, Item, Fence};
 ghost use Rattle.transport_asm.specs.OpText.{op_text};
-ghost use Rattle.transport_asm.specs.Example.{trap, segment, junction, turned};
+ghost use Rattle.transport_asm.specs.Example.{turned};
 
 /// An ion leaves a chain, and joins one, at either end.
 pub fn splits_and_merges()
