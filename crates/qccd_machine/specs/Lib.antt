@@ -1,3 +1,5 @@
+pub mod Fault
 pub mod Line
 pub mod Machine
 pub mod Preset
+pub mod TimeName

@@ -1,9 +1,15 @@
 //! Machines: traps that hold chains of ions, joined by segments and junctions.
 #![tactic(auto)]
 
+mod fault;
 mod machine;
+mod names;
+mod parts;
 mod place;
 pub mod worked;
 
+pub use fault::{MachineFault, PartKind};
 pub use machine::{Machine, preset_machine};
+pub use names::time_name;
+pub use parts::Parts;
 pub use place::{Place, Preset};

@@ -1,8 +1,12 @@
-ghost use Rattle.std.specs.Prelude.{◌≡◌, ◌≤◌, IfOk, length};
-ghost use Rattle.qccd_machine.specs.Machine.{MachineData, IsValid, slots_of, worst_of};
+ghost use Rattle.std.specs.Prelude.{◌≡◌, ◌≢◌, ◌≤◌, IfErr, IfOk, length};
 ghost use Rattle.qccd_base.specs.Greatest.{greatest};
+ghost use Rattle.qccd_machine.specs.declared.fault.MachineFault.TheVariants as fault;
+ghost use Rattle.qccd_machine.specs.Fault.{data_of, IsFirst};
+ghost use Rattle.qccd_machine.specs.Machine.{MachineData, IsValid, slots_of, worst_of};
 ghost use Rattle.qccd_machine.specs.Preset.{single};
 
+use crate::fault::MachineFault;
+use crate::parts::Parts;
 use crate::place::{Place, Preset};
 use qccd_base::{NoMemory, Times};
 use std::alloc::Global;
@@ -55,6 +59,18 @@ pub fn preset_machine(alloc: Global, which: Preset, capacity: u8) -> Result<Mach
 }
 
 impl Machine {
+    /// The machine of the parts.
+    ///
+    /// Parts that do not fit are refused for the first fault that applies, and nothing is taken before
+    /// it is told, so that a number of parts past any memory is refused by its name. Memory can run
+    /// out only where the parts fit.
+    pub fn build(alloc: Global, parts: Parts) -> Result<Machine, MachineFault>
+        ensures built { IfOk result (λ m. m ≡ data_of parts) }
+        ensures refused { IfErr result (λ f. f ≢ fault.NoMemory → IsFirst (data_of parts) f) }
+    {
+        Err(MachineFault::NoMemory)
+    }
+
     /// How many traps there are.
     pub fn traps(&self) -> u8
         ensures count { result ≡ length self.now.capacities }
