@@ -1,1 +1,5 @@
+pub mod Counts
+pub mod Questions
+pub mod SegmentEnds
 pub mod SingleTrap
+pub mod Turns

@@ -1,6 +1,7 @@
 //! Machines: traps that hold chains of ions, joined by segments and junctions.
 #![tactic(auto)]
 
+mod checking;
 mod fault;
 mod machine;
 mod names;

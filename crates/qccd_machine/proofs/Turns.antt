@@ -1,0 +1,125 @@
+-- The order of turns, and searches over some of them put together.
+use Rattle.std.proofs.Common.{◌≡◌, ℕ, zero, suc, ◌+◌, ◌<◌, ◌≤◌, ◌⊎◌, inl, inr, cond, refl, sym, ◌∙◌, ap, subst, eqb, arith}
+use Rattle.std.proofs.lemmas.Bool.{cases_lt, cases_order}
+use Rattle.qccd_base.specs.declared.names.Res.TheVariants as res
+use Rattle.qccd_machine.specs.declared.fault.PartKind.TheVariants.{Traps, Segments, Junctions}
+use Rattle.qccd_machine.specs.declared.fault.MachineFault.{MachineFault}
+use Rattle.qccd_machine.specs.declared.fault.MachineFault.TheVariants.{NoTrap, TooMany, Capacity, EndTaken, BadEnd, SelfJoined, JunctionDegree, NotConnected, TableRange, NoMemory}
+use Rattle.qccd_machine.specs.Machine.{MachineData}
+use Rattle.qccd_machine.specs.Fault.{Applies, Turn, turn, turn_of, IsEarlier, IsFirst}
+use Rattle.qccd_machine.specs.Search.{check, NoneWithin, IsFirstWithin}
+
+-- a turn is earlier than another or it isn't
+earlier_or_not : (a b : Turn) → IsEarlier a b ⊎ (IsEarlier a b → ⊥)
+earlier_or_not a b =
+    elim (cases_order a.check b.check) [
+      | inl check_is ↦ elim (cases_order a.part b.part) [
+        | inl part_is ↦ elim (cases_lt a.question b.question) [
+          | inl less ↦ inl (inr (check_is, inr (part_is, less)))
+          | inr more ↦ inr (λ e. omega arith)
+        ]
+        | inr parts ↦ elim parts [ inl less ↦ inl (inr (check_is, inl less)) | inr more ↦ inr (λ e. omega arith) ]
+      ]
+      | inr checks ↦ elim checks [ inl less ↦ inl (inl less) | inr more ↦ inr (λ e. omega arith) ]
+    ]
+
+-- a turn that is not earlier than a second is not earlier than what the second is not earlier than
+not_earlier : (a b c : Turn) → (IsEarlier a b → ⊥) → (IsEarlier b c → ⊥) → IsEarlier a c → ⊥
+not_earlier a b c h k e = elim (earlier_or_not a b) [ inl x ↦ h x | inr x ↦ k (grind arith) ]
+
+earlier_still : (a b c : Turn) → IsEarlier a b → (IsEarlier c b → ⊥) → IsEarlier a c
+earlier_still a b c h k = elim (earlier_or_not a c) [ inl x ↦ x | inr x ↦ absurd (not_earlier a c b x k h) ]
+
+-- nothing applies over two ranges of turns that meet
+pub none_joined : (m : MachineData) (a b c : Turn) → NoneWithin m a b → NoneWithin m b c → NoneWithin m a c
+none_joined m a b c before after fault within applies =
+    elim (earlier_or_not (turn_of fault) b) [ inl e ↦ before fault (within.0, e) applies | inr later ↦ after fault (later, within.1) applies ]
+
+-- the first of a later range is the first of all, where nothing applies before
+pub first_widened : (m : MachineData) (a b c d : Turn) (fault : MachineFault) → (IsEarlier b a → ⊥) → (IsEarlier d c → ⊥)
+    → NoneWithin m a b → IsFirstWithin m b c fault → IsFirstWithin m a d fault
+first_widened m a b c d fault low high before first = record {
+  within = (not_earlier (turn_of fault) b a first.within.0 low, earlier_still (turn_of fault) c d first.within.1 high);
+  applies = first.applies;
+  none_earlier = none_joined m a b (turn_of fault) before first.none_earlier;
+}
+
+-- a search from the first turn on finds the first fault of all
+pub first_of_all : (m : MachineData) (to : Turn) (fault : MachineFault) → IsFirstWithin m (check 0) to fault → IsFirst m fault
+first_of_all m to fault first = record {
+  applies = first.applies;
+  none_earlier = λ other earlier. first.none_earlier other ((λ e. omega arith), earlier);
+}
+
+-- the fault of each question about a segment, and about a trap or a junction that may be out of reach
+abbrev pub of_segment : ℕ → ℕ → MachineFault
+of_segment zero s = BadEnd (record { 0 = s })
+of_segment (suc zero) s = SelfJoined (record { 0 = s })
+of_segment (suc (suc question)) s = EndTaken (record { 0 = s })
+
+abbrev pub of_trap : ℕ → ℕ → MachineFault
+of_trap zero t = NotConnected (res.Trap (record { 0 = t }))
+of_trap (suc question) s = NotConnected (res.Seg (record { 0 = s }))
+
+abbrev pub of_junction : ℕ → ℕ → MachineFault
+of_junction zero j = NotConnected (res.Junc (record { 0 = j }))
+of_junction (suc question) b = NotConnected (res.Bit (record { 0 = b }))
+
+-- the fault of a turn
+abbrev pub named : ℕ → ℕ → ℕ → MachineFault
+named number part question =
+    cond (eqb number 0) NoTrap
+    (cond (eqb number 1) (TooMany Traps)
+    (cond (eqb number 2) (TooMany Segments)
+    (cond (eqb number 3) (TooMany Junctions)
+    (cond (eqb number 4) (Capacity (record { 0 = part }))
+    (cond (eqb number 5) (of_segment question part)
+    (cond (eqb number 6) (JunctionDegree (record { 0 = part }))
+    (cond (eqb number 7) (of_trap question part)
+    (cond (eqb number 8) (of_junction question part)
+    (cond (eqb number 9) (TableRange part) NoMemory)))))))))
+
+-- each fault is that of its turn
+pub named-turn_of : (fault : MachineFault) → named (turn_of fault).check (turn_of fault).part (turn_of fault).question ≡ fault
+named-turn_of NoTrap = refl
+named-turn_of (TooMany Traps) = refl
+named-turn_of (TooMany Segments) = refl
+named-turn_of (TooMany Junctions) = refl
+named-turn_of (Capacity t) = refl
+named-turn_of (BadEnd s) = refl
+named-turn_of (SelfJoined s) = refl
+named-turn_of (EndTaken s) = refl
+named-turn_of (JunctionDegree j) = refl
+named-turn_of (NotConnected (res.Trap t)) = refl
+named-turn_of (NotConnected (res.Seg s)) = refl
+named-turn_of (NotConnected (res.Junc j)) = refl
+named-turn_of (NotConnected (res.Bit b)) = refl
+named-turn_of (TableRange field) = refl
+named-turn_of NoMemory = refl
+
+applies_named : (m : MachineData) (fault : MachineFault) (number part : ℕ) → (turn_of fault).check ≡ number → (turn_of fault).part ≡ part → Applies m fault → Applies m (named number part (turn_of fault).question)
+applies_named m fault number part check_is part_is applies =
+    let e : fault ≡ named number part (turn_of fault).question = sym (named-turn_of fault) ∙ ap (λ c. named c (turn_of fault).part (turn_of fault).question) check_is ∙ ap (λ p. named number p (turn_of fault).question) part_is in
+    subst (Applies m) e applies
+
+-- no fault of one part applies
+pub none_of_part : (m : MachineData) (number part : ℕ) → ((question : ℕ) → Applies m (named number part question) → ⊥) → NoneWithin m (turn number part 0) (turn number (part + 1) 0)
+none_of_part m number part fails fault within applies =
+    let check_is : (turn_of fault).check ≡ number = grind arith in
+    let part_is : (turn_of fault).part ≡ part = grind arith in
+    fails (turn_of fault).question (applies_named m fault number part check_is part_is applies)
+
+-- no fault of the parts from one on applies
+pub none_of_parts : (m : MachineData) (number part : ℕ) → ((later question : ℕ) → part ≤ later → Applies m (named number later question) → ⊥) → NoneWithin m (turn number part 0) (turn (number + 1) 0 0)
+none_of_parts m number part fails fault within applies =
+    let check_is : (turn_of fault).check ≡ number = grind arith in
+    let part_is : part ≤ (turn_of fault).part = grind arith in
+    fails (turn_of fault).part (turn_of fault).question part_is (applies_named m fault number (turn_of fault).part check_is refl applies)
+
+-- no fault of the first questions about a part applies
+pub none_of_questions : (m : MachineData) (number part count : ℕ) → ((question : ℕ) → question < count → Applies m (named number part question) → ⊥) → NoneWithin m (turn number part 0) (turn number part count)
+none_of_questions m number part count fails fault within applies =
+    let check_is : (turn_of fault).check ≡ number = grind arith in
+    let part_is : (turn_of fault).part ≡ part = grind arith in
+    let early : (turn_of fault).question < count = grind arith in
+    fails (turn_of fault).question early (applies_named m fault number part check_is part_is applies)

@@ -1,0 +1,7 @@
+use Rattle.qccd_machine.specs.Fault.{data_of, turn}
+use Rattle.qccd_machine.specs.Search.{check, NoneWithin}
+use Rattle.qccd_machine.proofs.parts.Parts.wrong_degree.Given as goal
+
+-- nothing is wrong so far
+abbrev pub invariant-loop-j : goal.invariant-loop-j
+invariant-loop-j l = NoneWithin (data_of l.self) (check 6) (turn 6 l.j 0)

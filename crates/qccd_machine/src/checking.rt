@@ -1,0 +1,226 @@
+//! What is wrong with parts that make no machine.
+
+ghost use Rattle.std.specs.Prelude.{◌≡◌, ℕ, ◌+◌, ◌<◌, ◌≤◌, ◌↔◌, ◌⊎◌, IsTrue, IfSome, IfNone, [], ◌∷◌, length, count_by};
+ghost use Rattle.std.specs.List.{Any};
+ghost use Rattle.qccd_base.specs.Times.{times_of};
+ghost use Rattle.qccd_machine.specs.declared.place.Place.{Place};
+ghost use Rattle.qccd_machine.specs.declared.place.Place.TheVariants.{Junction};
+ghost use Rattle.qccd_machine.specs.Fault.{data_of, turn, IsFirst, TakesEnd};
+ghost use Rattle.qccd_machine.specs.Machine.{IsThere, IsValid, degree_of, same_place, site};
+ghost use Rattle.qccd_machine.specs.Search.{check, IsFirstWithin, NoneWithin};
+
+use crate::fault::{MachineFault, PartKind};
+use crate::parts::Parts;
+use crate::place::Place;
+use qccd_base::{JuncId, SegId, TrapId};
+
+// The most traps, segments and junctions of a machine.
+const TRAPS: usize = 32;
+
+const SEGMENTS: usize = 128;
+
+const JUNCTIONS: u64 = 64;
+
+// The longest time of a step, in microseconds.
+const LONGEST: u32 = 1_000_000;
+
+impl Parts {
+    // No trap, or too many of a kind.
+    fn wrong_count(&self) -> Option<MachineFault>
+        ensures some { IfSome result (IsFirstWithin (data_of self.now) (check 0) (check 4)) }
+        ensures none { IfNone result (NoneWithin (data_of self.now) (check 0) (check 4)) }
+    {
+        if self.capacities.is_empty() {
+            Some(MachineFault::NoTrap)
+        } else if self.capacities.len() > TRAPS {
+            Some(MachineFault::TooMany {
+                what: PartKind::Traps,
+            })
+        } else if self.segments.len() > SEGMENTS {
+            Some(MachineFault::TooMany {
+                what: PartKind::Segments,
+            })
+        } else if self.junctions > JUNCTIONS {
+            Some(MachineFault::TooMany {
+                what: PartKind::Junctions,
+            })
+        } else {
+            None
+        }
+    }
+
+    // A trap whose capacity is outside 2 to 32.
+    fn wrong_capacity(&self) -> Option<MachineFault>
+        requires { length self.now.capacities.items ≤ 32 }
+        ensures some { IfSome result (IsFirstWithin (data_of self.now) (check 4) (check 5)) }
+        ensures none { IfNone result (NoneWithin (data_of self.now) (check 4) (check 5)) }
+    {
+        for (t, capacity) in self.capacities.iter().enumerate() {
+            if *capacity < 2 || *capacity > 32 {
+                return Some(MachineFault::Capacity {
+                    trap: TrapId(t as u8),
+                });
+            }
+        }
+        None
+    }
+
+    // Whether the place is at a trap or a junction that is there.
+    fn has(&self, place: Place) -> bool
+        ensures { IsTrue result ↔ IsThere (data_of self.now) place }
+    {
+        match place {
+            Place::TrapEnd(trap, _) => usize::from(trap.0) < self.capacities.len(),
+            Place::Junction(junction) => u64::from(junction.0) < self.junctions,
+        }
+    }
+
+    // Whether both places are.
+    fn has_both(&self, ends: (Place, Place)) -> bool
+        ensures { IsTrue result ↔ (IsThere (data_of self.now) ends.0 × IsThere (data_of self.now) ends.1) }
+    {
+        self.has(ends.0) && self.has(ends.1)
+    }
+
+    // What is wrong with the ends of one segment.
+    fn wrong_ends(&self, s: usize) -> Option<MachineFault>
+        requires few { length self.now.segments.items ≤ 128 }
+        requires there { s < length self.now.segments.items }
+        ensures some { IfSome result (IsFirstWithin (data_of self.now) (turn 5 s 0) (turn 5 (s + 1) 0)) }
+        ensures none { IfNone result (NoneWithin (data_of self.now) (turn 5 s 0) (turn 5 (s + 1) 0)) }
+    {
+        let ends = self.segments[s];
+        let seg = SegId(s as u8);
+        if !self.has_both(ends) {
+            Some(MachineFault::BadEnd { seg })
+        } else if same_site(ends.0, ends.1) {
+            Some(MachineFault::SelfJoined { seg })
+        } else if is_taken(&self.segments[..s], ends) {
+            Some(MachineFault::EndTaken { seg })
+        } else {
+            None
+        }
+    }
+
+    // A segment with an end that is not there, both ends at one place, or an end that is taken.
+    fn wrong_segment(&self) -> Option<MachineFault>
+        requires { length self.now.segments.items ≤ 128 }
+        ensures some { IfSome result (IsFirstWithin (data_of self.now) (check 5) (check 6)) }
+        ensures none { IfNone result (NoneWithin (data_of self.now) (check 5) (check 6)) }
+    {
+        for s in 0..self.segments.len() {
+            if let Some(fault) = self.wrong_ends(s) {
+                return Some(fault);
+            }
+        }
+        None
+    }
+
+    // How many ends of segments the junction joins.
+    fn degree(&self, junction: JuncId) -> usize
+        requires { length self.now.segments.items ≤ 128 }
+        ensures { result ≡ degree_of (data_of self.now) junction.0 }
+    {
+        self.segments
+            .iter()
+            .map(|ends| ends_at(ends, junction))
+            .sum()
+    }
+
+    // A junction that does not join 2 to 4 ends of segments.
+    fn wrong_degree(&self) -> Option<MachineFault>
+        requires few_segments { length self.now.segments.items ≤ 128 }
+        requires few_junctions { self.now.junctions ≤ 64 }
+        ensures some { IfSome result (IsFirstWithin (data_of self.now) (check 6) (check 7)) }
+        ensures none { IfNone result (NoneWithin (data_of self.now) (check 6) (check 7)) }
+    {
+        for j in 0..self.junctions as u8 {
+            let degree = self.degree(JuncId(j));
+            if degree < 2 || degree > 4 {
+                return Some(MachineFault::JunctionDegree { junc: JuncId(j) });
+            }
+        }
+        None
+    }
+
+    // The times in the order of their fields.
+    fn all_times(&self) -> [u32; 12]
+        ensures { result ≡ times_of self.now.times }
+    {
+        let times = &self.times;
+        [
+            times.split,
+            times.merge,
+            times.shift,
+            times.cross2,
+            times.cross3,
+            times.cross4,
+            times.rot,
+            times.gate1,
+            times.measure,
+            times.reset,
+            times.gate2,
+            times.between,
+        ]
+    }
+
+    // A time that is too long.
+    fn wrong_time(&self) -> Option<MachineFault>
+        ensures some { IfSome result (IsFirstWithin (data_of self.now) (check 9) (check 10)) }
+        ensures none { IfNone result (NoneWithin (data_of self.now) (check 9) (check 10)) }
+    {
+        let times = self.all_times();
+        for (field, time) in times.iter().enumerate() {
+            if *time > LONGEST {
+                return Some(MachineFault::TableRange { field: field as u8 });
+            }
+        }
+        None
+    }
+}
+
+// Whether the places are at one trap or at one junction.
+fn same_site(a: Place, b: Place) -> bool
+    ensures { IsTrue result ↔ (site a ≡ site b) }
+{
+    match (a, b) {
+        (Place::TrapEnd(t, _), Place::TrapEnd(u, _)) => t.0 == u.0,
+        (Place::Junction(i), Place::Junction(j)) => i.0 == j.0,
+        _ => false,
+    }
+}
+
+// Whether the place is the junction.
+fn is_at(place: Place, junction: JuncId) -> bool
+    ensures { result ≡ same_place (Junction junction) place }
+{
+    match place {
+        Place::TrapEnd(..) => false,
+        Place::Junction(j) => junction.0 == j.0,
+    }
+}
+
+// How many of the two ends of a segment are at the junction.
+fn ends_at(ends: &(Place, Place), junction: JuncId) -> usize
+    ensures count { result ≡ count_by (same_place (Junction junction)) (ends.now.0 ∷ ends.now.1 ∷ []) }
+    ensures most { result ≤ 2 }
+{
+    usize::from(is_at(ends.0, junction)) + usize::from(is_at(ends.1, junction))
+}
+
+// Whether the place is an end of a trap, and one of the two.
+fn takes_end(ends: &(Place, Place), place: Place) -> bool
+    ensures { IsTrue result ↔ TakesEnd ends.now place }
+{
+    match place {
+        Place::TrapEnd(..) => ends.0 == place || ends.1 == place,
+        Place::Junction(_) => false,
+    }
+}
+
+// Whether one of the segments has an end of a trap that is one of the two.
+fn is_taken(segments: &[(Place, Place)], ends: (Place, Place)) -> bool
+    ensures { IsTrue result ↔ Any (λ others. TakesEnd others ends.0 ⊎ TakesEnd others ends.1) segments.now }
+{
+    segments.iter().any(|others| takes_end(others, ends.0) || takes_end(others, ends.1))
+}
