@@ -1,4 +1,5 @@
 pub mod Counts
+pub mod Paths
 pub mod Questions
 pub mod SegmentEnds
 pub mod SingleTrap

@@ -2,5 +2,6 @@ pub mod Fault
 pub mod Line
 pub mod Machine
 pub mod Preset
+pub mod Reach
 pub mod Search
 pub mod TimeName

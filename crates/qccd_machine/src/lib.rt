@@ -7,6 +7,7 @@ mod machine;
 mod names;
 mod parts;
 mod place;
+mod reach;
 pub mod worked;
 
 pub use fault::{MachineFault, PartKind};
