@@ -1,13 +1,14 @@
 -- The answers of each check, over plain lists.
-use Rattle.std.proofs.Common.{◌≡◌, ℕ, ◌+◌, ◌<◌, ◌≤◌, inl, inr, List, length, get_or, Some, sym, ◌∙◌, ap, arith}
+use Rattle.std.proofs.Common.{◌≡◌, ℕ, zero, suc, ◌+◌, ◌<◌, ◌≤◌, inl, inr, List, length, get_or, Some, sym, ◌∙◌, ap, arith}
 use Rattle.std.specs.Prelude.{slice_get}
 use Rattle.std.proofs.lemmas.Option.{get_or_from_slice_get, slice_get-get_or}
+use Rattle.qccd_base.specs.declared.names.Res.TheVariants.{Trap, Junc}
 use Rattle.qccd_base.specs.Times.{times_of}
-use Rattle.qccd_machine.specs.declared.fault.MachineFault.TheVariants.{TableRange}
-use Rattle.qccd_machine.specs.Machine.{MachineData, degree_of}
-use Rattle.qccd_machine.specs.Fault.{turn}
+use Rattle.qccd_machine.specs.declared.fault.MachineFault.TheVariants.{NotConnected, TableRange}
+use Rattle.qccd_machine.specs.Machine.{MachineData, IsReached, degree_of}
+use Rattle.qccd_machine.specs.Fault.{Applies, turn}
 use Rattle.qccd_machine.specs.Search.{check, IsFirstWithin, NoneWithin}
-use Rattle.qccd_machine.proofs.Turns.{none_joined, none_of_part}
+use Rattle.qccd_machine.proofs.Turns.{none_joined, none_of_part, of_trap, of_junction}
 
 -- a list of numbers, read at the place that a fault names
 read : (xs ys : List ℕ) (k : ℕ) → xs ≡ ys → (found : (n : ℕ) × (slice_get ys k ≡ Some n) × Unit {0}) → get_or xs k 0 ≡ found.0
@@ -40,3 +41,21 @@ time_found m xs field xs_are here long before = record {
   applies = (get_or xs field 0, ap (λ (ys : List ℕ). slice_get ys field) (sym xs_are) ∙ slice_get-get_or xs field 0 here, long);
   none_earlier = before;
 }
+
+pub trap_passed : (m : MachineData) (t : ℕ) → IsReached m (Trap (record { 0 = t })) → NoneWithin m (check 7) (turn 7 t 0) → NoneWithin m (check 7) (turn 7 (t + 1) 0)
+trap_passed m t reached before = none_joined m (check 7) (turn 7 t 0) (turn 7 (t + 1) 0) before (none_of_part m 7 t passes) where
+  passes : (q : ℕ) → Applies m (of_trap q t) → ⊥
+  passes zero h = h.1 reached
+  passes (suc q) h = h
+
+pub junction_passed : (m : MachineData) (j : ℕ) → IsReached m (Junc (record { 0 = j })) → NoneWithin m (check 8) (turn 8 j 0) → NoneWithin m (check 8) (turn 8 (j + 1) 0)
+junction_passed m j reached before = none_joined m (check 8) (turn 8 j 0) (turn 8 (j + 1) 0) before (none_of_part m 8 j passes) where
+  passes : (q : ℕ) → Applies m (of_junction q j) → ⊥
+  passes zero h = h.1 reached
+  passes (suc q) h = h
+
+pub trap_far : (m : MachineData) (t : ℕ) → t < length m.capacities → (IsReached m (Trap (record { 0 = t })) → ⊥) → NoneWithin m (check 7) (turn 7 t 0) → IsFirstWithin m (check 7) (check 8) (NotConnected (Trap (record { 0 = t })))
+trap_far m t here far before = record { within = (λ e. omega arith, inl (omega arith)); applies = (here, far); none_earlier = before }
+
+pub junction_far : (m : MachineData) (j : ℕ) → j < m.junctions → (IsReached m (Junc (record { 0 = j })) → ⊥) → NoneWithin m (check 8) (turn 8 j 0) → IsFirstWithin m (check 8) (check 9) (NotConnected (Junc (record { 0 = j })))
+junction_far m j here far before = record { within = (λ e. omega arith, inl (omega arith)); applies = (here, far); none_earlier = before }

@@ -39,7 +39,7 @@ any_from_taken m xs s ends xs_are found = subst (λ (ys : List (Place × Place))
 same_ends : (m : MachineData) (s : ℕ) (ends others : Place × Place) → slice_get m.segments s ≡ Some ends → slice_get m.segments s ≡ Some others → others ≡ ends
 same_ends m s ends others e f = same_Some others ends (sym f ∙ e)
 
-is_there : (m : MachineData) (place : Place) → IsThere m place ⊎ (IsThere m place → ⊥)
+pub is_there : (m : MachineData) (place : Place) → IsThere m place ⊎ (IsThere m place → ⊥)
 is_there m (TrapEnd t end) = elim (cases_lt t.0 (length m.capacities)) [ inl less ↦ inl less | inr more ↦ inr (λ h. omega arith) ]
 is_there m (Junction j) = elim (cases_lt j.0 m.junctions) [ inl less ↦ inl less | inr more ↦ inr (λ h. omega arith) ]
 

@@ -1,5 +1,5 @@
 -- Marks on the traps and junctions that a search has come to.
-use Rattle.std.specs.Prelude.{◌≡◌, ◌⊎◌, ℕ, ◌+◌, ◌<◌, Bool, true, false, not, List, Some, slice_get, slice_index_or, count_by}
+use Rattle.std.specs.Prelude.{◌≡◌, ◌↔◌, ℕ, ◌+◌, ◌<◌, Bool, true, false, not, List, Some, slice_get, slice_index_or, count_by}
 use Rattle.qccd_base.specs.declared.names.Res.{Res}
 use Rattle.qccd_base.specs.declared.names.Res.TheVariants.{Trap, Seg, Junc, Bit}
 use Rattle.qccd_machine.specs.declared.place.Place.{Place}
@@ -30,6 +30,10 @@ KeepsMarks old new = (r : Res) → is_marked old r ≡ true → is_marked new r 
 -- a path leads to all that is marked
 abbrev pub AllReached : MachineData → Reached → Type 0
 AllReached m marks = (r : Res) → is_marked marks r ≡ true → IsReached m r
+
+-- the marks are at all that a path leads to, and nowhere else
+abbrev pub MarksReached : MachineData → Reached → Type 0
+MarksReached m marks = (r : Res) → (is_marked marks r ≡ true) ↔ IsReached m r
 
 -- each segment before one has a mark at both ends or at none
 abbrev pub IsClosedBelow : List (Place × Place) → ℕ → Reached → Type 0

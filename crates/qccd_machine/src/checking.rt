@@ -1,18 +1,20 @@
 //! What is wrong with parts that make no machine.
 
 ghost use Rattle.std.specs.Prelude.{◌≡◌, ℕ, ◌+◌, ◌<◌, ◌≤◌, ◌↔◌, ◌⊎◌, IsTrue, IfSome, IfNone, [], ◌∷◌, length, count_by};
-ghost use Rattle.std.specs.List.{Any};
+ghost use Rattle.std.specs.List.{All, Any};
 ghost use Rattle.qccd_base.specs.Times.{times_of};
 ghost use Rattle.qccd_machine.specs.declared.place.Place.{Place};
 ghost use Rattle.qccd_machine.specs.declared.place.Place.TheVariants.{Junction};
 ghost use Rattle.qccd_machine.specs.Fault.{data_of, turn, IsFirst, TakesEnd};
 ghost use Rattle.qccd_machine.specs.Machine.{IsThere, IsValid, degree_of, same_place, site};
+ghost use Rattle.qccd_machine.specs.Reach.{MarksReached};
 ghost use Rattle.qccd_machine.specs.Search.{check, IsFirstWithin, NoneWithin};
 
 use crate::fault::{MachineFault, PartKind};
 use crate::parts::Parts;
 use crate::place::Place;
-use qccd_base::{JuncId, SegId, TrapId};
+use crate::reach::Reached;
+use qccd_base::{JuncId, Res, SegId, TrapId};
 
 // The most traps, segments and junctions of a machine.
 const TRAPS: usize = 32;
@@ -25,10 +27,42 @@ const JUNCTIONS: u64 = 64;
 const LONGEST: u32 = 1_000_000;
 
 impl Parts {
+    /// What is wrong with the parts, told by the first fault that applies, or `None` where they make a
+    /// machine. It takes no memory, and looks at nothing that there may be too many of before it has
+    /// counted it.
+    pub fn fault(&self) -> Option<MachineFault>
+        ensures some { IfSome result (IsFirst (data_of self.now)) }
+        ensures none { IfNone result (IsValid (data_of self.now)) }
+    {
+        if let Some(fault) = self.wrong_count() {
+            return Some(fault);
+        }
+        if let Some(fault) = self.wrong_capacity() {
+            return Some(fault);
+        }
+        if let Some(fault) = self.wrong_segment() {
+            return Some(fault);
+        }
+        if let Some(fault) = self.wrong_degree() {
+            return Some(fault);
+        }
+        let marks = self.reached();
+        if let Some(fault) = self.far_trap(&marks) {
+            return Some(fault);
+        }
+        if let Some(fault) = self.far_junction(&marks) {
+            return Some(fault);
+        }
+        self.wrong_time()
+    }
+
     // No trap, or too many of a kind.
     fn wrong_count(&self) -> Option<MachineFault>
         ensures some { IfSome result (IsFirstWithin (data_of self.now) (check 0) (check 4)) }
         ensures none { IfNone result (NoneWithin (data_of self.now) (check 0) (check 4)) }
+        ensures traps { IfNone result (length self.now.capacities.items ≤ 32) }
+        ensures segments { IfNone result (length self.now.segments.items ≤ 128) }
+        ensures junctions { IfNone result (self.now.junctions ≤ 64) }
     {
         if self.capacities.is_empty() {
             Some(MachineFault::NoTrap)
@@ -138,6 +172,50 @@ impl Parts {
             let degree = self.degree(JuncId(j));
             if degree < 2 || degree > 4 {
                 return Some(MachineFault::JunctionDegree { junc: JuncId(j) });
+            }
+        }
+        None
+    }
+
+    // What a path leads to from the first trap.
+    fn reached(&self) -> Reached
+        requires traps { length self.now.capacities.items ≤ 32 }
+        requires junctions { self.now.junctions ≤ 64 }
+        requires there { All (λ s. IsThere (data_of self.now) s.0 × IsThere (data_of self.now) s.1) self.now.segments.items }
+        ensures { MarksReached (data_of self.now) result }
+    {
+        Reached::from_first_trap(self.segments.as_slice())
+    }
+
+    // A trap out of reach.
+    fn far_trap(&self, marks: &Reached) -> Option<MachineFault>
+        requires few { length self.now.capacities.items ≤ 32 }
+        requires marks { MarksReached (data_of self.now) marks.now }
+        ensures some { IfSome result (IsFirstWithin (data_of self.now) (check 7) (check 8)) }
+        ensures none { IfNone result (NoneWithin (data_of self.now) (check 7) (check 8)) }
+    {
+        for t in 0..self.capacities.len() as u8 {
+            if !marks.traps[usize::from(t)] {
+                return Some(MachineFault::NotConnected {
+                    place: Res::Trap(TrapId(t)),
+                });
+            }
+        }
+        None
+    }
+
+    // A junction out of reach.
+    fn far_junction(&self, marks: &Reached) -> Option<MachineFault>
+        requires few { self.now.junctions ≤ 64 }
+        requires marks { MarksReached (data_of self.now) marks.now }
+        ensures some { IfSome result (IsFirstWithin (data_of self.now) (check 8) (check 9)) }
+        ensures none { IfNone result (NoneWithin (data_of self.now) (check 8) (check 9)) }
+    {
+        for j in 0..self.junctions as u8 {
+            if !marks.junctions[usize::from(j)] {
+                return Some(MachineFault::NotConnected {
+                    place: Res::Junc(JuncId(j)),
+                });
             }
         }
         None
