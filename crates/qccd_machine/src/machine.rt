@@ -1,4 +1,4 @@
-ghost use Rattle.std.specs.Prelude.{◌≡◌, ◌≢◌, ◌≤◌, IfErr, IfOk, length};
+ghost use Rattle.std.specs.Prelude.{◌≡◌, ◌≢◌, ◌≤◌, All, IfErr, IfOk, length};
 ghost use Rattle.qccd_base.specs.Greatest.{greatest};
 ghost use Rattle.qccd_machine.specs.declared.fault.MachineFault.TheVariants as fault;
 ghost use Rattle.qccd_machine.specs.Fault.{data_of, IsFirst};
@@ -9,7 +9,7 @@ use crate::fault::MachineFault;
 use crate::parts::Parts;
 use crate::place::{Place, Preset};
 use qccd_base::{NoMemory, Times};
-use std::alloc::Global;
+use std::alloc::{AllocError, Global};
 use std::marker::Model;
 
 /// A machine that is valid: at least one trap, each within its limits, and every part within reach.
@@ -67,8 +67,17 @@ impl Machine {
     pub fn build(alloc: Global, parts: Parts) -> Result<Machine, MachineFault>
         ensures built { IfOk result (λ m. m ≡ data_of parts) }
         ensures refused { IfErr result (λ f. f ≢ fault.NoMemory → IsFirst (data_of parts) f) }
+        ensures memory { IfErr result (λ f. f ≡ fault.NoMemory → IsValid (data_of parts)) }
     {
-        Err(MachineFault::NoMemory)
+        match parts.fault() {
+            Some(fault) => Err(fault),
+            None => Ok(Machine {
+                capacities: narrowed(alloc, parts.capacities.as_slice())?,
+                junctions: parts.junctions as u8,
+                segments: parts.segments,
+                times: parts.times,
+            }),
+        }
     }
 
     /// How many traps there are.
@@ -123,6 +132,17 @@ impl Machine {
         let hop = (longest - 1) + 3 + 3 * u32::from(self.junctions);
         traps * (traps - 1) * hop + 1
     }
+}
+
+// The capacities as a machine has them.
+fn narrowed(alloc: Global, capacities: &[u64]) -> Result<Vec<u8>, AllocError>
+    requires { All (λ c. c ≤ 32) capacities.now }
+    ensures { IfOk result (λ v. v.items ≡ capacities.now) }
+{
+    capacities
+        .iter()
+        .map(|capacity| *capacity as u8)
+        .collect(alloc)
 }
 
 /// The greatest of the numbers, or 0 where there is none.
