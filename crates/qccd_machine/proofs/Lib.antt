@@ -4,5 +4,6 @@ pub mod Questions
 pub mod SamePlace
 pub mod SegmentEnds
 pub mod SingleTrap
+pub mod Sound
 pub mod Turns
 pub mod Valid

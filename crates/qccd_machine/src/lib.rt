@@ -3,6 +3,7 @@
 
 mod checking;
 mod fault;
+pub mod laws;
 mod machine;
 mod names;
 mod parts;

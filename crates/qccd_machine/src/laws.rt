@@ -1,0 +1,16 @@
+//! What holds of all parts and their faults. Each function does nothing: its contract is the law.
+
+ghost use Rattle.std.specs.Prelude.{◌≡◌};
+ghost use Rattle.qccd_machine.specs.declared.fault.MachineFault.{MachineFault};
+ghost use Rattle.qccd_machine.specs.Fault.{Applies, IsFirst};
+ghost use Rattle.qccd_machine.specs.Machine.{MachineData, IsValid};
+
+/// No fault applies to a valid machine. So parts are never both those of a machine and refused.
+pub fn no_fault_of_a_machine()
+    ensures { (m : MachineData) (fault : MachineFault) → IsValid m → Applies m fault → ⊥ }
+{}
+
+/// One fault at most is the first. So parts are refused in one way at most.
+pub fn one_first_fault()
+    ensures { (m : MachineData) (fault other : MachineFault) → IsFirst m fault → IsFirst m other → fault ≡ other }
+{}
