@@ -9,6 +9,8 @@ mod names;
 mod parts;
 mod place;
 mod reach;
+#[cfg(test)]
+mod tests;
 pub mod worked;
 
 pub use fault::{MachineFault, PartKind};
