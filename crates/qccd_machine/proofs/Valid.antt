@@ -1,5 +1,5 @@
 -- Parts in which no fault applies are valid, and in valid ones none applies.
-use Rattle.std.proofs.Common.{◌≡◌, ℕ, zero, suc, ◌+◌, ◌<◌, ◌≤◌, ◌⊎◌, inl, inr, Bool, true, false, List, length, get_or, Some, refl, sym, ◌∙◌, ap, subst, arith}
+use Rattle.std.proofs.Common.{◌≡◌, ℕ, ◌<◌, ◌≤◌, ◌⊎◌, inl, inr, List, length, get_or, Some, sym, ◌∙◌, ap, subst, arith}
 use Rattle.std.specs.Prelude.{slice_get, All}
 use Rattle.std.proofs.lemmas.Bool.{cases_Bool, cases_lt, false≢true}
 use Rattle.std.proofs.lemmas.Option.{slice_get-get_or}
@@ -9,17 +9,17 @@ use Rattle.qccd_base.specs.declared.names.Res.{Res}
 use Rattle.qccd_base.specs.declared.names.Res.TheVariants as res
 use Rattle.qccd_base.specs.Times.{times_of}
 use Rattle.qccd_machine.specs.declared.place.Place.{Place}
-use Rattle.qccd_machine.specs.declared.place.Place.TheVariants.{TrapEnd, Junction}
+use Rattle.qccd_machine.specs.declared.place.Place.TheVariants.{TrapEnd}
 use Rattle.qccd_machine.specs.declared.fault.PartKind.TheVariants.{Traps, Segments, Junctions}
 use Rattle.qccd_machine.specs.declared.fault.MachineFault.{MachineFault}
-use Rattle.qccd_machine.specs.declared.fault.MachineFault.TheVariants.{NoTrap, TooMany, Capacity, EndTaken, BadEnd, SelfJoined, JunctionDegree, NotConnected, TableRange, NoMemory}
+use Rattle.qccd_machine.specs.declared.fault.MachineFault.TheVariants.{NoTrap, TooMany, Capacity, EndTaken, BadEnd, SelfJoined, JunctionDegree, NotConnected, TableRange}
 use Rattle.qccd_machine.specs.declared.reach.Reached.{Reached}
 use Rattle.qccd_machine.specs.Machine.{MachineData, IsValid, IsThere, IsReached, degree_of, ends_at, same_place, site}
 use Rattle.qccd_machine.specs.Fault.{Applies, turn_of, TakesEnd}
 use Rattle.qccd_machine.specs.Reach.{MarksReached, is_marked}
 use Rattle.qccd_machine.specs.Search.{check, NoneWithin}
-use Rattle.qccd_machine.proofs.Counts.{HasOne, count_at_most_one, count_at_least_two}
-use Rattle.qccd_machine.proofs.SamePlace.{same_place-true, same_place-refl}
+use Rattle.qccd_machine.proofs.Counts.{HasOne, count_at_most_one}
+use Rattle.qccd_machine.proofs.SamePlace.{same_place-true}
 use Rattle.qccd_machine.proofs.SegmentEnds.{is_there}
 
 at_most : (a b : ℕ) → (b < a → ⊥) → a ≤ b

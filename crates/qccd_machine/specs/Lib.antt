@@ -1,4 +1,5 @@
 pub mod Fault
+pub mod Faulty
 pub mod Line
 pub mod Machine
 pub mod Preset

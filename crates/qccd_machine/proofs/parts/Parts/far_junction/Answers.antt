@@ -1,4 +1,4 @@
-use Rattle.std.proofs.Common.{◌≡◌, ◌<◌, Bool, true, false, length, get_or, sym, ◌∙◌, ap, rules}
+use Rattle.std.proofs.Common.{◌≡◌, ◌<◌, true, false, get_or, sym, ◌∙◌, ap, rules}
 use Rattle.std.proofs.lemmas.Bool.{false≢true}
 use Rattle.qccd_base.specs.declared.names.Res.TheVariants.{Junc}
 use Rattle.qccd_machine.specs.Fault.{data_of}
