@@ -1,9 +1,8 @@
 -- Ends of segments, counted.
 use Rattle.std.proofs.Common.{◌≡◌, ℕ, zero, suc, ◌+◌, ◌<◌, ◌≤◌, ◌⊎◌, inl, inr, Bool, true, false, cond, List, [], ◌∷◌, Some, refl, sym, ◌∙◌, ap, subst, arith}
 use Rattle.std.specs.Prelude.{count_by, flat_map, slice_get}
-use Rattle.std.specs.List.{sum_by}
 use Rattle.std.proofs.lemmas.Bool.{cases_Bool}
-use Rattle.std.proofs.lemmas.List.Sums.{sum_by-append, sum_by-cons}
+use Rattle.std.proofs.lemmas.List.Sums.{sum_by-cons}
 use Rattle.std.proofs.lemmas.Option.{same_Some}
 use Rattle.qccd_machine.specs.declared.place.Place.{Place}
 
@@ -29,14 +28,6 @@ one_counts true b rest all is h = omega arith
 one_counts false true rest all is h = omega arith
 one_counts false false rest all is h = elim h [ inl x ↦ cc | inr x ↦ cc ]
 
--- a count over lists joined end to end is the sum of the counts
-pub count_by-flat_map : {X Y : Type 0} (p : Y → Bool) (f : X → List Y) (xs : List X) → count_by p (flat_map f xs) ≡ sum_by (λ x. count_by p (f x)) xs
-count_by-flat_map p f [] = refl
-count_by-flat_map p f (x ∷ xs) =
-    sum_by-append (λ y. cond (p y) 1 0) (f x) (flat_map f xs)
-    ∙ ap (λ n. count_by p (f x) + n) (count_by-flat_map p f xs)
-    ∙ sym (sum_by-cons (λ x. count_by p (f x)) x xs)
-
 abbrev pub both : Place × Place → List Place
 both ends = ends.0 ∷ ends.1 ∷ []
 
@@ -51,7 +42,7 @@ count-cons p ends rest =
     ∙ ap (λ n. cond (p ends.0) 1 0 + n) (sum_by-cons (λ x. cond (p x) 1 0) ends.1 (flat_map both rest))
 
 -- no end passes
-count_none : (p : Place → Bool) (segments : List (Place × Place)) → ((k : ℕ) (ends : Place × Place) → slice_get segments k ≡ Some ends → HasOne p ends → ⊥)
+pub count_none : (p : Place → Bool) (segments : List (Place × Place)) → ((k : ℕ) (ends : Place × Place) → slice_get segments k ≡ Some ends → HasOne p ends → ⊥)
     → count_by p (flat_map both segments) ≡ 0
 count_none p [] none = refl
 count_none p (ends ∷ rest) none =
@@ -84,7 +75,7 @@ count_at_most_one p (ends ∷ rest) apart free =
     ]
 
 -- a segment with an end that passes counts
-count_at_least_one : (p : Place → Bool) (segments : List (Place × Place)) (k : ℕ) (ends : Place × Place) → slice_get segments k ≡ Some ends → HasOne p ends
+pub count_at_least_one : (p : Place → Bool) (segments : List (Place × Place)) (k : ℕ) (ends : Place × Place) → slice_get segments k ≡ Some ends → HasOne p ends
     → 1 ≤ count_by p (flat_map both segments)
 count_at_least_one p [] k ends is has = cc
 count_at_least_one p (first ∷ rest) zero ends is has =

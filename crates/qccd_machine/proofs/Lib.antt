@@ -1,5 +1,7 @@
 pub mod Counts
+pub mod Joined
 pub mod Paths
+pub mod Presets
 pub mod Questions
 pub mod SamePlace
 pub mod SegmentEnds

@@ -19,6 +19,13 @@ extended m a b c (t ∷ path) s (mid, first, rest) joins = (mid, first, extended
 reached_next : (m : MachineData) (a b : Res) (s : ℕ) → Joins m s a b → IsReached m a → IsReached m b
 reached_next m a b s joins (path, leads) = (path ++ s ∷ [], extended m first_trap a b path s leads joins)
 
+-- from a segment's end A to its end B, and back
+pub reached_along : (m : MachineData) (s : ℕ) (ends : Place × Place) → slice_get m.segments s ≡ Some ends → IsReached m (site ends.0) → IsReached m (site ends.1)
+reached_along m s ends is = reached_next m (site ends.0) (site ends.1) s (ends, is, inl (refl, refl))
+
+pub reached_back : (m : MachineData) (s : ℕ) (ends : Place × Place) → slice_get m.segments s ≡ Some ends → IsReached m (site ends.1) → IsReached m (site ends.0)
+reached_back m s ends is = reached_next m (site ends.1) (site ends.0) s (ends, is, inr (refl, refl))
+
 -- a mark set at one end of a segment whose other end was marked
 pub reached_second : (m : MachineData) (s : ℕ) (ends : Place × Place) (old new : Reached) → slice_get m.segments s ≡ Some ends
     → is_marked old (site ends.0) ≡ true → ((r : Res) → is_marked new r ≡ true → (is_marked old r ≡ true) ⊎ (r ≡ site ends.1))
@@ -26,7 +33,7 @@ pub reached_second : (m : MachineData) (s : ℕ) (ends : Place × Place) (old ne
 reached_second m s ends old new is marked only all r h =
     elim (only r h) [
       | inl before ↦ all r before
-      | inr here ↦ subst (IsReached m) (sym here) (reached_next m (site ends.0) (site ends.1) s (ends, is, inl (refl, refl)) (all (site ends.0) marked))
+      | inr here ↦ subst (IsReached m) (sym here) (reached_along m s ends is (all (site ends.0) marked))
     ]
 
 pub reached_first : (m : MachineData) (s : ℕ) (ends : Place × Place) (old new : Reached) → slice_get m.segments s ≡ Some ends
@@ -35,7 +42,7 @@ pub reached_first : (m : MachineData) (s : ℕ) (ends : Place × Place) (old new
 reached_first m s ends old new is marked only all r h =
     elim (only r h) [
       | inl before ↦ all r before
-      | inr here ↦ subst (IsReached m) (sym here) (reached_next m (site ends.1) (site ends.0) s (ends, is, inr (refl, refl)) (all (site ends.1) marked))
+      | inr here ↦ subst (IsReached m) (sym here) (reached_back m s ends is (all (site ends.1) marked))
     ]
 
 -- marks that are alike at both ends of each segment go on along a path

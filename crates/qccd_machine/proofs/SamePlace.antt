@@ -1,7 +1,8 @@
 -- The test whether two places are one.
-use Rattle.std.proofs.Common.{◌≡◌, ℕ, Bool, true, false, ◌&&◌, eqb, refl, sym, ◌∙◌, ap}
+use Rattle.std.proofs.Common.{◌≡◌, ℕ, Bool, true, false, ◌&&◌, eqb, refl, ◌∙◌, ap}
 use Rattle.std.proofs.lemmas.Bool.{false≢true}
 use Rattle.std.proofs.lemmas.Bool.Decides.{Decides-eqb}
+use Rattle.qccd_base.specs.Names.{trap, junction}
 use Rattle.qccd_base.specs.declared.names.End.{End}
 use Rattle.qccd_base.specs.declared.names.End.TheVariants.{Left, Right}
 use Rattle.qccd_machine.specs.declared.place.Place.{Place}
@@ -22,15 +23,13 @@ and_parts : (a b : Bool) → (a && b) ≡ true → (a ≡ true) × (b ≡ true)
 and_parts true b h = (refl, h)
 and_parts false b h = absurd (false≢true h)
 
-pub same_place-true : (p q : Place) → same_place p q ≡ true → q ≡ p
+pub same_place-true : (p q : Place) → same_place p q ≡ true → p ≡ q
 same_place-true (TrapEnd t e) (TrapEnd u f) h =
     let parts : (eqb t.0 u.0 ≡ true) × (same_end e f ≡ true) = and_parts (eqb t.0 u.0) (same_end e f) h in
-    let traps : u.0 ≡ t.0 = sym ((Decides-eqb t.0 u.0).0 parts.0) in
-    let ends : f ≡ e = sym (same_end-true e f parts.1) in
-    ap (λ (n : ℕ). TrapEnd (record { 0 = n }) f) traps ∙ ap (TrapEnd t) ends
+    ap (λ (n : ℕ). TrapEnd (trap n) e) ((Decides-eqb t.0 u.0).0 parts.0) ∙ ap (TrapEnd u) (same_end-true e f parts.1)
 same_place-true (TrapEnd t e) (Junction j) h = absurd (false≢true h)
 same_place-true (Junction j) (TrapEnd t e) h = absurd (false≢true h)
-same_place-true (Junction i) (Junction j) h = ap (λ (n : ℕ). Junction (record { 0 = n })) (sym ((Decides-eqb i.0 j.0).0 h))
+same_place-true (Junction i) (Junction j) h = ap (λ (n : ℕ). Junction (junction n)) ((Decides-eqb i.0 j.0).0 h)
 
 pub same_place-refl : (p : Place) → same_place p p ≡ true
 same_place-refl (TrapEnd t e) = ap (λ (b : Bool). b && same_end e e) ((Decides-eqb t.0 t.0).1 refl) ∙ same_end-refl e

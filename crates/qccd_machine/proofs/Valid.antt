@@ -40,17 +40,17 @@ there_from_none m none k d within =
 taken_from_one : (t : TrapId) (end : End) (ends others : Place × Place) → HasOne (same_place (TrapEnd t end)) ends → HasOne (same_place (TrapEnd t end)) others → TakesEnd ends others.0 ⊎ TakesEnd ends others.1
 taken_from_one t end ends others has has' =
     let p : Place = TrapEnd t end in
-    let takes : TakesEnd ends p = elim has [ inl h ↦ inl (same_place-true p ends.0 h) | inr h ↦ inr (same_place-true p ends.1 h) ] in
+    let takes : TakesEnd ends p = elim has [ inl h ↦ inl (sym (same_place-true p ends.0 h)) | inr h ↦ inr (sym (same_place-true p ends.1 h)) ] in
     elim has' [
-      | inl h ↦ inl (subst (TakesEnd ends) (sym (same_place-true p others.0 h)) takes)
-      | inr h ↦ inr (subst (TakesEnd ends) (sym (same_place-true p others.1 h)) takes)
+      | inl h ↦ inl (subst (TakesEnd ends) (same_place-true p others.0 h) takes)
+      | inr h ↦ inr (subst (TakesEnd ends) (same_place-true p others.1 h) takes)
     ]
 
 free_from_none : (m : MachineData) → ((s : ℕ) → Applies m (SelfJoined (record { 0 = s })) → ⊥) → ((s : ℕ) → Applies m (EndTaken (record { 0 = s })) → ⊥)
     → (t : TrapId) (end : End) → ends_at m (TrapEnd t end) ≤ 1
 free_from_none m apart free t end =
     count_at_most_one (same_place (TrapEnd t end)) m.segments
-    (λ k ends is h h'. apart k (ends, is, ap site (same_place-true (TrapEnd t end) ends.0 h ∙ sym (same_place-true (TrapEnd t end) ends.1 h'))))
+    (λ k ends is h h'. apart k (ends, is, ap site (sym (same_place-true (TrapEnd t end) ends.0 h) ∙ same_place-true (TrapEnd t end) ends.1 h')))
     (λ i k ends others before is is' has has'. free k (others, is', (i, ends, before, is, taken_from_one t end ends others has has')))
 
 -- that a site is reached or not has to be known: the marks of the search tell it

@@ -24,10 +24,11 @@ abbrev pub TakesEnd : Place × Place → Place → Type 0
 TakesEnd ends (TrapEnd t end) = (ends.0 ≡ TrapEnd t end) ⊎ (ends.1 ≡ TrapEnd t end)
 TakesEnd ends (Junction j) = ⊥
 
--- what is wrong with the two ends of a segment
+-- an end of the segment is at a trap or a junction that is not there
 abbrev pub HasMissingEnd : MachineData → Place × Place → Type 0
 HasMissingEnd m ends = (IsThere m ends.0 → ⊥) ⊎ (IsThere m ends.1 → ⊥)
 
+-- an earlier segment has an end of a trap that is one of these two ends
 abbrev pub HasTakenEnd : MachineData → ℕ → Place × Place → Type 0
 HasTakenEnd m s ends = (earlier : ℕ) × (others : Place × Place) × (earlier < s)
     × (slice_get m.segments earlier ≡ Some others) × (TakesEnd others ends.0 ⊎ TakesEnd others ends.1)

@@ -1,5 +1,7 @@
 pub mod Fault
+pub mod FaultText
 pub mod Faulty
+pub mod Joined
 pub mod Line
 pub mod Machine
 pub mod Preset

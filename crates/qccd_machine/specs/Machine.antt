@@ -20,6 +20,10 @@ pub record MachineData : Type 0 where
   pub segments : List (Place × Place)
   pub times : Times
 
+abbrev pub machine_data : List ℕ → ℕ → List (Place × Place) → Times → MachineData
+machine_data capacities junctions segments times =
+    record { capacities = capacities; junctions = junctions; segments = segments; times = times }
+
 -- the place is at a trap or a junction that is there
 abbrev pub IsThere : MachineData → Place → Type 0
 IsThere m (TrapEnd t end) = t.0 < length m.capacities
@@ -42,13 +46,13 @@ same_place (TrapEnd t e) (Junction j) = false
 same_place (Junction j) (TrapEnd t e) = false
 same_place (Junction i) (Junction j) = i.0 == j.0
 
--- the places of all ends of segments
-abbrev pub end_places : MachineData → List Place
-end_places m = flat_map (λ s. s.0 ∷ s.1 ∷ []) m.segments
+-- how many ends of these segments are at a place
+abbrev pub count_at : List (Place × Place) → Place → ℕ
+count_at segments p = count_by (same_place p) (flat_map (λ s. s.0 ∷ s.1 ∷ []) segments)
 
 -- how many ends of segments are at a place
 abbrev pub ends_at : MachineData → Place → ℕ
-ends_at m p = count_by (same_place p) (end_places m)
+ends_at m p = count_at m.segments p
 
 -- how many ends of segments a junction joins
 abbrev pub degree_of : MachineData → ℕ → ℕ
@@ -91,11 +95,11 @@ pub record IsValid (m : MachineData) : Type 0 where
 abbrev pub slots_of : MachineData → ℕ
 slots_of m = cond (length m.capacities == 1) (sum m.capacities) (sum m.capacities - 1)
 
--- at most so many operations bring a qubit one hop: to the end of its chain, a split, a move and a
--- merge, and for each junction on the way an enter, a leave and a move
+-- the bound that is stated for the operations of one hop of a qubit: it goes to the end of its chain, a
+-- split, a move and a merge, and for each junction on the way an enter, a leave and a move
 abbrev pub hop_bound : MachineData → ℕ
 hop_bound m = (greatest m.capacities - 1) + 3 + 3 * m.junctions
 
--- at most so many operations serve one item
+-- the bound that is stated for the operations of one item
 abbrev pub worst_of : MachineData → ℕ
 worst_of m = length m.capacities * (length m.capacities - 1) * hop_bound m + 1

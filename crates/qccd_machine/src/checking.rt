@@ -10,6 +10,7 @@ ghost use Rattle.qccd_machine.specs.Machine.{IsThere, IsValid, degree_of, same_p
 ghost use Rattle.qccd_machine.specs.Reach.{MarksReached};
 ghost use Rattle.qccd_machine.specs.Search.{check, IsFirstWithin, NoneWithin};
 
+use crate::ends::ends_at;
 use crate::fault::{MachineFault, PartKind};
 use crate::parts::Parts;
 use crate::place::Place;
@@ -136,7 +137,8 @@ impl Parts {
         }
     }
 
-    // A segment with an end that is not there, both ends at one place, or an end that is taken.
+    // A segment with an end that is not there, both ends at one trap or junction, or an end that is
+    // taken.
     fn wrong_segment(&self) -> Option<MachineFault>
         requires { length self.now.segments.items ≤ 128 }
         ensures some { IfSome result (IsFirstWithin (data_of self.now) (check 5) (check 6)) }
@@ -155,10 +157,7 @@ impl Parts {
         requires { length self.now.segments.items ≤ 128 }
         ensures { result ≡ degree_of (data_of self.now) junction.0 }
     {
-        self.segments
-            .iter()
-            .map(|ends| ends_at(ends, junction))
-            .sum()
+        ends_at(self.segments.as_slice(), Place::Junction(junction))
     }
 
     // A junction that does not join 2 to 4 ends of segments.
@@ -266,24 +265,6 @@ fn same_site(a: Place, b: Place) -> bool
         (Place::Junction(i), Place::Junction(j)) => i.0 == j.0,
         _ => false,
     }
-}
-
-// Whether the place is the junction.
-fn is_at(place: Place, junction: JuncId) -> bool
-    ensures { result ≡ same_place (Junction junction) place }
-{
-    match place {
-        Place::TrapEnd(..) => false,
-        Place::Junction(j) => junction.0 == j.0,
-    }
-}
-
-// How many of the two ends of a segment are at the junction.
-fn ends_at(ends: &(Place, Place), junction: JuncId) -> usize
-    ensures count { result ≡ count_by (same_place (Junction junction)) (ends.now.0 ∷ ends.now.1 ∷ []) }
-    ensures most { result ≤ 2 }
-{
-    usize::from(is_at(ends.0, junction)) + usize::from(is_at(ends.1, junction))
 }
 
 // Whether the place is an end of a trap, and one of the two.

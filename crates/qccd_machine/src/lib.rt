@@ -2,19 +2,24 @@
 #![tactic(auto)]
 
 mod checking;
+mod ends;
 mod fault;
+mod fault_text;
 pub mod laws;
 mod machine;
 mod names;
 mod parts;
 mod place;
+mod preset;
+pub mod preset_laws;
 mod reach;
 #[cfg(test)]
 mod tests;
 pub mod worked;
 
 pub use fault::{MachineFault, PartKind};
-pub use machine::{Machine, preset_machine};
+pub use machine::Machine;
 pub use names::time_name;
 pub use parts::Parts;
 pub use place::{Place, Preset};
+pub use preset::preset_machine;

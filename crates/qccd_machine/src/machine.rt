@@ -1,14 +1,16 @@
-ghost use Rattle.std.specs.Prelude.{◌≡◌, ◌≢◌, ◌≤◌, All, IfErr, IfOk, length};
+ghost use Rattle.std.specs.Prelude.{◌≡◌, ◌≢◌, ◌<◌, ◌≤◌, ℕ, All, IfErr, IfOk, IfNone, IfSome, OnOk, length, slice_get};
 ghost use Rattle.qccd_base.specs.Greatest.{greatest};
+ghost use Rattle.qccd_base.specs.declared.names.SegId.{SegId};
 ghost use Rattle.qccd_machine.specs.declared.fault.MachineFault.TheVariants as fault;
 ghost use Rattle.qccd_machine.specs.Fault.{data_of, IsFirst};
-ghost use Rattle.qccd_machine.specs.Machine.{MachineData, IsValid, slots_of, worst_of};
-ghost use Rattle.qccd_machine.specs.Preset.{single};
+ghost use Rattle.qccd_machine.specs.Joined.{IsJoined};
+ghost use Rattle.qccd_machine.specs.Machine.{MachineData, IsValid, degree_of, machine_data, slots_of, worst_of};
 
+use crate::ends::{ends_at, first_at};
 use crate::fault::MachineFault;
 use crate::parts::Parts;
-use crate::place::{Place, Preset};
-use qccd_base::{NoMemory, Times};
+use crate::place::Place;
+use qccd_base::{End, JuncId, SegId, Times, TrapId};
 use std::alloc::{AllocError, Global};
 use std::marker::Model;
 
@@ -41,24 +43,25 @@ impl Model for Machine {
     }) };
 }
 
-/// The named machine, with traps of this capacity and the usual times.
-pub fn preset_machine(alloc: Global, which: Preset, capacity: u8) -> Result<Machine, NoMemory>
-    requires one_trap { which ≡ Preset.Single }
-    requires least { 2 ≤ capacity }
-    requires most { capacity ≤ 32 }
-    ensures { IfOk result (λ m. m ≡ single capacity) }
-{
-    let mut capacities = Vec::new(alloc);
-    capacities.push(capacity)?;
-    Ok(Machine {
-        capacities,
-        junctions: 0,
-        segments: Vec::new(alloc),
-        times: Times::usual(),
-    })
-}
-
 impl Machine {
+    /// The machine of these parts, which are valid.
+    pub(crate) fn of_valid(
+        capacities: Vec<u8>,
+        junctions: u8,
+        segments: Vec<(Place, Place)>,
+        times: Times,
+    ) -> Machine
+        requires { IsValid (machine_data capacities.items junctions segments.items times) }
+        ensures { result ≡ machine_data capacities.items junctions segments.items times }
+    {
+        Machine {
+            capacities,
+            junctions,
+            segments,
+            times,
+        }
+    }
+
     /// The machine of the parts.
     ///
     /// Parts that do not fit are refused for the first fault that applies, and nothing is taken before
@@ -66,17 +69,21 @@ impl Machine {
     /// out only where the parts fit.
     pub fn build(alloc: Global, parts: Parts) -> Result<Machine, MachineFault>
         ensures built { IfOk result (λ m. m ≡ data_of parts) }
+        ensures valid { OnOk result (IsValid (data_of parts)) }
         ensures refused { IfErr result (λ f. f ≢ fault.NoMemory → IsFirst (data_of parts) f) }
         ensures memory { IfErr result (λ f. f ≡ fault.NoMemory → IsValid (data_of parts)) }
     {
         match parts.fault() {
             Some(fault) => Err(fault),
-            None => Ok(Machine {
-                capacities: narrowed(alloc, parts.capacities.as_slice())?,
-                junctions: parts.junctions as u8,
-                segments: parts.segments,
-                times: parts.times,
-            }),
+            None => {
+                let capacities = narrowed(alloc, parts.capacities.as_slice())?;
+                Ok(Machine::of_valid(
+                    capacities,
+                    parts.junctions as u8,
+                    parts.segments,
+                    parts.times,
+                ))
+            }
         }
     }
 
@@ -100,6 +107,42 @@ impl Machine {
         ensures { result ≡ self.now.junctions }
     {
         self.junctions
+    }
+
+    /// How many ions the trap holds at most.
+    pub fn capacity(&self, t: TrapId) -> u8
+        requires { t.0 < length self.now.capacities }
+        ensures { slice_get self.now.capacities t.0 ≡ Some result }
+    {
+        self.capacities[usize::from(t.0)]
+    }
+
+    /// Where the two ends of the segment are, end A first.
+    pub fn ends(&self, s: SegId) -> (Place, Place)
+        requires { s.0 < length self.now.segments }
+        ensures { slice_get self.now.segments s.0 ≡ Some result }
+    {
+        self.segments[usize::from(s.0)]
+    }
+
+    /// The segment that is joined to this end of the trap, or `None` where none is. There is one at
+    /// most.
+    pub fn joined(&self, t: TrapId, e: End) -> Option<SegId>
+        requires { t.0 < length self.now.capacities }
+        ensures some { IfSome result (λ s. IsJoined self.now (Place.TrapEnd t e) s.0) }
+        ensures none { IfNone result ((s : ℕ) → IsJoined self.now (Place.TrapEnd t e) s → ⊥) }
+        ensures only { (s : SegId) → IsJoined self.now (Place.TrapEnd t e) s.0 → result ≡ Some s }
+    {
+        let number = first_at(self.segments.as_slice(), Place::TrapEnd(t, e))?;
+        Some(SegId(number as u8))
+    }
+
+    /// How many ends of segments the junction joins.
+    pub fn degree(&self, j: JuncId) -> u8
+        requires { j.0 < self.now.junctions }
+        ensures { result ≡ degree_of self.now j.0 }
+    {
+        ends_at(self.segments.as_slice(), Place::Junction(j)) as u8
     }
 
     /// How long each step takes.

@@ -1,14 +1,15 @@
 use Rattle.std.proofs.Common.{ℕ, List, [], ◌∷◌, refl, inl, inr, ap, arith}
 use Rattle.qccd_base.specs.declared.names.Res.TheVariants as res
 use Rattle.qccd_base.specs.Resource.{number_of}
-use Rattle.qccd_machine.specs.Faulty.{cross, left, right, two_traps}
+use Rattle.qccd_machine.specs.Faulty.{two_traps}
+use Rattle.qccd_machine.specs.Preset.{at_junction, at_left, at_right}
 use Rattle.qccd_machine.specs.Machine.{Leads, first_trap}
 use Rattle.qccd_machine.proofs.worked.paths.Goals as goal
 
 pub returns-clause-over : goal.returns-clause-over
 returns-clause-over c = (
   0 ∷ 1 ∷ [],
-  (res.Junc (record { 0 = 0 }), ((right 0, cross 0), refl, inl (refl, refl)), (res.Trap (record { 0 = 1 }), ((left 1, cross 0), refl, inr (refl, refl)), refl)),
+  (res.Junc (record { 0 = 0 }), ((at_right 0, at_junction 0), refl, inl (refl, refl)), (res.Trap (record { 0 = 1 }), ((at_left 1, at_junction 0), refl, inr (refl, refl)), refl)),
 )
 
 nowhere : (path : List ℕ) → Leads (two_traps 0 []) first_trap path (res.Trap (record { 0 = 1 })) → ⊥
