@@ -5,10 +5,10 @@ ghost use Rattle.std.specs.List.{All, Any};
 ghost use Rattle.qccd_base.specs.Times.{times_of};
 ghost use Rattle.qccd_machine.specs.declared.place.Place.{Place};
 ghost use Rattle.qccd_machine.specs.declared.place.Place.TheVariants.{Junction};
-ghost use Rattle.qccd_machine.specs.Fault.{data_of, turn, IsFirst, TakesEnd};
+ghost use Rattle.qccd_machine.specs.Fault.{data_of, IsFirst, TakesEnd};
 ghost use Rattle.qccd_machine.specs.Machine.{IsThere, IsValid, degree_of, same_place, site};
 ghost use Rattle.qccd_machine.specs.Reach.{MarksReached};
-ghost use Rattle.qccd_machine.specs.Search.{check, IsFirstWithin, NoneWithin};
+ghost use Rattle.qccd_machine.specs.Search.{at_capacities, at_counts, at_degrees, at_end, at_far_junctions, at_far_traps, at_segment, at_segments, at_times, IsFirstWithin, NoneWithin};
 
 use crate::ends::ends_at;
 use crate::fault::{MachineFault, PartKind};
@@ -23,6 +23,16 @@ const TRAPS: usize = 32;
 const SEGMENTS: usize = 128;
 
 const JUNCTIONS: u64 = 64;
+
+// The least and the greatest capacity of a trap.
+const LEAST_CAPACITY: u64 = 2;
+
+const MOST_CAPACITY: u64 = 32;
+
+// The fewest and the most ends of segments that a junction joins.
+const LEAST_DEGREE: usize = 2;
+
+const MOST_DEGREE: usize = 4;
 
 // The longest time of a step, in microseconds.
 const LONGEST: u32 = 1_000_000;
@@ -59,8 +69,8 @@ impl Parts {
 
     // No trap, or too many of a kind.
     fn wrong_count(&self) -> Option<MachineFault>
-        ensures some { IfSome result (IsFirstWithin (data_of self.now) (check 0) (check 4)) }
-        ensures none { IfNone result (NoneWithin (data_of self.now) (check 0) (check 4)) }
+        ensures some { IfSome result (IsFirstWithin (data_of self.now) at_counts at_capacities) }
+        ensures none { IfNone result (NoneWithin (data_of self.now) at_counts at_capacities) }
         ensures traps { IfNone result (length self.now.capacities.items ≤ 32) }
         ensures segments { IfNone result (length self.now.segments.items ≤ 128) }
         ensures junctions { IfNone result (self.now.junctions ≤ 64) }
@@ -87,13 +97,13 @@ impl Parts {
     // A trap whose capacity is outside 2 to 32.
     fn wrong_capacity(&self) -> Option<MachineFault>
         requires { length self.now.capacities.items ≤ 32 }
-        ensures some { IfSome result (IsFirstWithin (data_of self.now) (check 4) (check 5)) }
-        ensures none { IfNone result (NoneWithin (data_of self.now) (check 4) (check 5)) }
+        ensures some { IfSome result (IsFirstWithin (data_of self.now) at_capacities at_segments) }
+        ensures none { IfNone result (NoneWithin (data_of self.now) at_capacities at_segments) }
     {
-        for (t, capacity) in self.capacities.iter().enumerate() {
-            if *capacity < 2 || *capacity > 32 {
+        for (trap, capacity) in self.capacities.iter().enumerate() {
+            if *capacity < LEAST_CAPACITY || *capacity > MOST_CAPACITY {
                 return Some(MachineFault::Capacity {
-                    trap: TrapId(t as u8),
+                    trap: TrapId(trap as u8),
                 });
             }
         }
@@ -118,19 +128,19 @@ impl Parts {
     }
 
     // What is wrong with the ends of one segment.
-    fn wrong_ends(&self, s: usize) -> Option<MachineFault>
+    fn wrong_ends(&self, segment: usize) -> Option<MachineFault>
         requires few { length self.now.segments.items ≤ 128 }
-        requires there { s < length self.now.segments.items }
-        ensures some { IfSome result (IsFirstWithin (data_of self.now) (turn 5 s 0) (turn 5 (s + 1) 0)) }
-        ensures none { IfNone result (NoneWithin (data_of self.now) (turn 5 s 0) (turn 5 (s + 1) 0)) }
+        requires there { segment < length self.now.segments.items }
+        ensures some { IfSome result (IsFirstWithin (data_of self.now) (at_segment segment) (at_segment (segment + 1))) }
+        ensures none { IfNone result (NoneWithin (data_of self.now) (at_segment segment) (at_segment (segment + 1))) }
     {
-        let ends = self.segments[s];
-        let seg = SegId(s as u8);
+        let ends = self.segments[segment];
+        let seg = SegId(segment as u8);
         if !self.has_both(ends) {
             Some(MachineFault::BadEnd { seg })
         } else if same_site(ends.0, ends.1) {
             Some(MachineFault::SelfJoined { seg })
-        } else if is_taken(&self.segments[..s], ends) {
+        } else if is_taken(&self.segments[..segment], ends) {
             Some(MachineFault::EndTaken { seg })
         } else {
             None
@@ -141,11 +151,11 @@ impl Parts {
     // taken.
     fn wrong_segment(&self) -> Option<MachineFault>
         requires { length self.now.segments.items ≤ 128 }
-        ensures some { IfSome result (IsFirstWithin (data_of self.now) (check 5) (check 6)) }
-        ensures none { IfNone result (NoneWithin (data_of self.now) (check 5) (check 6)) }
+        ensures some { IfSome result (IsFirstWithin (data_of self.now) at_segments at_degrees) }
+        ensures none { IfNone result (NoneWithin (data_of self.now) at_segments at_degrees) }
     {
-        for s in 0..self.segments.len() {
-            if let Some(fault) = self.wrong_ends(s) {
+        for segment in 0..self.segments.len() {
+            if let Some(fault) = self.wrong_ends(segment) {
                 return Some(fault);
             }
         }
@@ -164,13 +174,15 @@ impl Parts {
     fn wrong_degree(&self) -> Option<MachineFault>
         requires few_segments { length self.now.segments.items ≤ 128 }
         requires few_junctions { self.now.junctions ≤ 64 }
-        ensures some { IfSome result (IsFirstWithin (data_of self.now) (check 6) (check 7)) }
-        ensures none { IfNone result (NoneWithin (data_of self.now) (check 6) (check 7)) }
+        ensures some { IfSome result (IsFirstWithin (data_of self.now) at_degrees at_far_traps) }
+        ensures none { IfNone result (NoneWithin (data_of self.now) at_degrees at_far_traps) }
     {
-        for j in 0..self.junctions as u8 {
-            let degree = self.degree(JuncId(j));
-            if degree < 2 || degree > 4 {
-                return Some(MachineFault::JunctionDegree { junc: JuncId(j) });
+        for junction in 0..self.junctions as u8 {
+            let degree = self.degree(JuncId(junction));
+            if degree < LEAST_DEGREE || degree > MOST_DEGREE {
+                return Some(MachineFault::JunctionDegree {
+                    junc: JuncId(junction),
+                });
             }
         }
         None
@@ -190,13 +202,13 @@ impl Parts {
     fn far_trap(&self, marks: &Reached) -> Option<MachineFault>
         requires few { length self.now.capacities.items ≤ 32 }
         requires marks { MarksReached (data_of self.now) marks.now }
-        ensures some { IfSome result (IsFirstWithin (data_of self.now) (check 7) (check 8)) }
-        ensures none { IfNone result (NoneWithin (data_of self.now) (check 7) (check 8)) }
+        ensures some { IfSome result (IsFirstWithin (data_of self.now) at_far_traps at_far_junctions) }
+        ensures none { IfNone result (NoneWithin (data_of self.now) at_far_traps at_far_junctions) }
     {
-        for t in 0..self.capacities.len() as u8 {
-            if !marks.traps[usize::from(t)] {
+        for trap in 0..self.capacities.len() as u8 {
+            if !marks.traps[usize::from(trap)] {
                 return Some(MachineFault::NotConnected {
-                    place: Res::Trap(TrapId(t)),
+                    place: Res::Trap(TrapId(trap)),
                 });
             }
         }
@@ -207,13 +219,13 @@ impl Parts {
     fn far_junction(&self, marks: &Reached) -> Option<MachineFault>
         requires few { self.now.junctions ≤ 64 }
         requires marks { MarksReached (data_of self.now) marks.now }
-        ensures some { IfSome result (IsFirstWithin (data_of self.now) (check 8) (check 9)) }
-        ensures none { IfNone result (NoneWithin (data_of self.now) (check 8) (check 9)) }
+        ensures some { IfSome result (IsFirstWithin (data_of self.now) at_far_junctions at_times) }
+        ensures none { IfNone result (NoneWithin (data_of self.now) at_far_junctions at_times) }
     {
-        for j in 0..self.junctions as u8 {
-            if !marks.junctions[usize::from(j)] {
+        for junction in 0..self.junctions as u8 {
+            if !marks.junctions[usize::from(junction)] {
                 return Some(MachineFault::NotConnected {
-                    place: Res::Junc(JuncId(j)),
+                    place: Res::Junc(JuncId(junction)),
                 });
             }
         }
@@ -243,8 +255,8 @@ impl Parts {
 
     // A time that is too long.
     fn wrong_time(&self) -> Option<MachineFault>
-        ensures some { IfSome result (IsFirstWithin (data_of self.now) (check 9) (check 10)) }
-        ensures none { IfNone result (NoneWithin (data_of self.now) (check 9) (check 10)) }
+        ensures some { IfSome result (IsFirstWithin (data_of self.now) at_times at_end) }
+        ensures none { IfNone result (NoneWithin (data_of self.now) at_times at_end) }
     {
         let times = self.all_times();
         for (field, time) in times.iter().enumerate() {

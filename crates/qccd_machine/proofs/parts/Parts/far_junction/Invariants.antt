@@ -3,5 +3,5 @@ use Rattle.qccd_machine.specs.Search.{check, NoneWithin}
 use Rattle.qccd_machine.proofs.parts.Parts.far_junction.Given as goal
 
 -- nothing is wrong so far
-abbrev pub invariant-loop-j : goal.invariant-loop-j
-invariant-loop-j l = NoneWithin (data_of l.self) (check 8) (turn 8 l.j 0)
+abbrev pub invariant-loop-junction : goal.invariant-loop-junction
+invariant-loop-junction l = NoneWithin (data_of l.self) (check 8) (turn 8 l.junction 0)

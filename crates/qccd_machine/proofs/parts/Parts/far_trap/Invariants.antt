@@ -3,5 +3,5 @@ use Rattle.qccd_machine.specs.Search.{check, NoneWithin}
 use Rattle.qccd_machine.proofs.parts.Parts.far_trap.Given as goal
 
 -- nothing is wrong so far
-abbrev pub invariant-loop-t : goal.invariant-loop-t
-invariant-loop-t l = NoneWithin (data_of l.self) (check 7) (turn 7 l.t 0)
+abbrev pub invariant-loop-trap : goal.invariant-loop-trap
+invariant-loop-trap l = NoneWithin (data_of l.self) (check 7) (turn 7 l.trap 0)
