@@ -1,5 +1,5 @@
 -- The order of turns, and searches over some of them put together.
-use Rattle.std.proofs.Common.{◌≡◌, ℕ, zero, suc, ◌+◌, ◌<◌, ◌≤◌, ◌⊎◌, inl, inr, cond, refl, sym, ◌∙◌, ap, subst, eqb, arith}
+use Rattle.std.proofs.Common.{◌≡◌, ℕ, zero, suc, ◌+◌, ◌<◌, ◌⊎◌, inl, inr, cond, refl, sym, ◌∙◌, ap, subst, eqb, arith}
 use Rattle.std.proofs.lemmas.Bool.{cases_lt, cases_order}
 use Rattle.qccd_base.specs.declared.names.Res.TheVariants as res
 use Rattle.qccd_machine.specs.declared.fault.PartKind.TheVariants.{Traps, Segments, Junctions}
@@ -7,7 +7,7 @@ use Rattle.qccd_machine.specs.declared.fault.MachineFault.{MachineFault}
 use Rattle.qccd_machine.specs.declared.fault.MachineFault.TheVariants.{NoTrap, TooMany, Capacity, EndTaken, BadEnd, SelfJoined, JunctionDegree, NotConnected, TableRange, NoMemory}
 use Rattle.qccd_machine.specs.Machine.{MachineData}
 use Rattle.qccd_machine.specs.Fault.{Applies, Turn, turn, turn_of, IsEarlier, IsFirst}
-use Rattle.qccd_machine.specs.Search.{check, NoneWithin, IsFirstWithin}
+use Rattle.qccd_machine.specs.Search.{at_counts, NoneWithin, IsFirstWithin}
 
 -- a turn is earlier than another or it isn't
 earlier_or_not : (a b : Turn) → IsEarlier a b ⊎ (IsEarlier a b → ⊥)
@@ -23,32 +23,16 @@ earlier_or_not a b =
       | inr checks ↦ elim checks [ inl less ↦ inl (inl less) | inr more ↦ inr (λ e. omega arith) ]
     ]
 
--- a turn that is not earlier than a second is not earlier than what the second is not earlier than
-not_earlier : (a b c : Turn) → (IsEarlier a b → ⊥) → (IsEarlier b c → ⊥) → IsEarlier a c → ⊥
-not_earlier a b c h k e = elim (earlier_or_not a b) [ inl x ↦ h x | inr x ↦ k (grind arith) ]
-
-earlier_still : (a b c : Turn) → IsEarlier a b → (IsEarlier c b → ⊥) → IsEarlier a c
-earlier_still a b c h k = elim (earlier_or_not a c) [ inl x ↦ x | inr x ↦ absurd (not_earlier a c b x k h) ]
-
 -- nothing applies over two ranges of turns that meet
 pub none_joined : (m : MachineData) (a b c : Turn) → NoneWithin m a b → NoneWithin m b c → NoneWithin m a c
 none_joined m a b c before after fault within applies =
     elim (earlier_or_not (turn_of fault) b) [ inl e ↦ before fault (within.0, e) applies | inr later ↦ after fault (later, within.1) applies ]
 
--- the first of a later range is the first of all, where nothing applies before
-pub first_widened : (m : MachineData) (a b c d : Turn) (fault : MachineFault) → (IsEarlier b a → ⊥) → (IsEarlier d c → ⊥)
-    → NoneWithin m a b → IsFirstWithin m b c fault → IsFirstWithin m a d fault
-first_widened m a b c d fault low high before first = record {
-  within = (not_earlier (turn_of fault) b a first.within.0 low, earlier_still (turn_of fault) c d first.within.1 high);
+-- the first of some turns is the first of all, where nothing applies at those before
+pub first_after : (m : MachineData) (from to : Turn) (fault : MachineFault) → NoneWithin m at_counts from → IsFirstWithin m from to fault → IsFirst m fault
+first_after m from to fault before first = record {
   applies = first.applies;
-  none_earlier = none_joined m a b (turn_of fault) before first.none_earlier;
-}
-
--- a search from the first turn on finds the first fault of all
-pub first_of_all : (m : MachineData) (to : Turn) (fault : MachineFault) → IsFirstWithin m (check 0) to fault → IsFirst m fault
-first_of_all m to fault first = record {
-  applies = first.applies;
-  none_earlier = λ other earlier. first.none_earlier other ((λ e. omega arith), earlier);
+  none_earlier = λ other earlier. none_joined m at_counts from (turn_of fault) before first.none_earlier other ((λ e. omega arith), earlier);
 }
 
 -- the fault of each question about a segment, and about a trap or a junction that may be out of reach
@@ -108,13 +92,6 @@ none_of_part m number part fails fault within applies =
     let check_is : (turn_of fault).check ≡ number = grind arith in
     let part_is : (turn_of fault).part ≡ part = grind arith in
     fails (turn_of fault).question (applies_named m fault number part check_is part_is applies)
-
--- no fault of the parts from one on applies
-pub none_of_parts : (m : MachineData) (number part : ℕ) → ((later question : ℕ) → part ≤ later → Applies m (named number later question) → ⊥) → NoneWithin m (turn number part 0) (turn (number + 1) 0 0)
-none_of_parts m number part fails fault within applies =
-    let check_is : (turn_of fault).check ≡ number = grind arith in
-    let part_is : part ≤ (turn_of fault).part = grind arith in
-    fails (turn_of fault).part (turn_of fault).question part_is (applies_named m fault number (turn_of fault).part check_is refl applies)
 
 -- no fault of the first questions about a part applies
 pub none_of_questions : (m : MachineData) (number part count : ℕ) → ((question : ℕ) → question < count → Applies m (named number part question) → ⊥) → NoneWithin m (turn number part 0) (turn number part count)

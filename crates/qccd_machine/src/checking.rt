@@ -289,9 +289,16 @@ fn takes_end(ends: &(Place, Place), place: Place) -> bool
     }
 }
 
-// Whether one of the segments has an end of a trap that is one of the two.
+// Whether one of the two others is an end of a trap, and one of the ends.
+fn share_end(others: &(Place, Place), ends: (Place, Place)) -> bool
+    ensures { IsTrue result ↔ (TakesEnd others.now ends.0 ⊎ TakesEnd others.now ends.1) }
+{
+    takes_end(others, ends.0) || takes_end(others, ends.1)
+}
+
+// Whether one of the segments has an end of a trap that is one of the ends.
 fn is_taken(segments: &[(Place, Place)], ends: (Place, Place)) -> bool
     ensures { IsTrue result ↔ Any (λ others. TakesEnd others ends.0 ⊎ TakesEnd others ends.1) segments.now }
 {
-    segments.iter().any(|others| takes_end(others, ends.0) || takes_end(others, ends.1))
+    segments.iter().any(|others| share_end(others, ends))
 }
