@@ -2,6 +2,7 @@
 #![tactic(auto)]
 
 mod kinds;
+pub mod laws;
 pub mod worked;
 
 pub use kinds::{OpKind, Why};

@@ -1,0 +1,15 @@
+//! What holds of the definitions. Each function does nothing: its contract is the law.
+
+ghost use Rattle.std.specs.Prelude.{◌≡◌, ℕ, Some};
+ghost use Rattle.qccd_base.specs.declared.names.SegEnd.{SegEnd};
+ghost use Rattle.qccd_machine.specs.declared.place.Place.{Place};
+ghost use Rattle.qccd_machine.specs.Joined.{IsJoined};
+ghost use Rattle.qccd_machine.specs.Machine.{MachineData};
+ghost use Rattle.op_table.specs.Step.{end_at};
+
+/// An end of a segment is at a place exactly where the machine joins the segment to it. So what a
+/// machine tells of its ends is what the operations ask of it.
+pub fn ends_where_joined()
+    ensures there { (m : MachineData) (p : Place) (s : ℕ) → IsJoined m p s → (e : SegEnd) × (end_at m s p ≡ Some e) }
+    ensures joined { (m : MachineData) (p : Place) (s : ℕ) (e : SegEnd) → end_at m s p ≡ Some e → IsJoined m p s }
+{}
