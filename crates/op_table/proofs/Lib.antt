@@ -1,1 +1,2 @@
 pub mod EndAt
+pub mod LongestStep
