@@ -1,0 +1,9 @@
+pub mod RunLemmas
+pub mod KindLemmas
+pub mod NumberLemmas
+pub mod TokenLemmas
+pub mod GapLemmas
+pub mod ReadingLemmas
+pub mod TokenExists
+pub mod FrontLemmas
+pub mod AnswerLemmas

@@ -1,0 +1,51 @@
+//! Why a text has no list of tokens.
+
+use std::alloc::{AllocError, AllocFailed};
+use thiserror::Error;
+
+/// Why a text has no list of tokens. Of several faults in a text the first one is told.
+#[derive(Clone, Copy, Debug, PartialEq, Eq, Hash, Error)]
+pub enum LexFault {
+    /// No token begins at this byte, counted from 0.
+    #[error("no token begins at byte {at}")]
+    BadByte { at: u32 },
+    /// A string begins at this byte, counted from 0, and is not closed on its line.
+    #[error("the string at byte {at} is not closed on its line")]
+    OpenString { at: u32 },
+    /// Memory ran out.
+    #[error("memory ran out")]
+    NoMemory,
+}
+
+impl From<AllocError> for LexFault {
+    ghost use Rattle.std.specs.Prelude.{◌≡◌};
+    ghost use Rattle.qasm_lex.specs.declared.fault.LexFault.TheVariants.{NoMemory};
+
+    ghost from_gives = { λ _ e. e ≡ NoMemory };
+
+    fn from(_refused: AllocError) -> LexFault {
+        LexFault::NoMemory
+    }
+}
+
+impl<T: Drop> From<AllocFailed<T>> for LexFault {
+    ghost use Rattle.std.specs.Prelude.{◌≡◌};
+    ghost use Rattle.qasm_lex.specs.declared.fault.LexFault.TheVariants.{NoMemory};
+
+    ghost from_gives = { λ _ e. e ≡ NoMemory };
+
+    fn from(_refused: AllocFailed<T>) -> LexFault {
+        LexFault::NoMemory
+    }
+}
+
+impl From<qccd_base::NoMemory> for LexFault {
+    ghost use Rattle.std.specs.Prelude.{◌≡◌};
+    ghost use Rattle.qasm_lex.specs.declared.fault.LexFault.TheVariants.{NoMemory};
+
+    ghost from_gives = { λ _ e. e ≡ NoMemory };
+
+    fn from(_refused: qccd_base::NoMemory) -> LexFault {
+        LexFault::NoMemory
+    }
+}

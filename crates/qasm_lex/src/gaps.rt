@@ -1,0 +1,33 @@
+//! White space and comments.
+
+ghost use Rattle.std.specs.Prelude.{◌≡◌, false, IfNone, IfSome};
+ghost use Rattle.qasm_lex.specs.Gaps.{BeginsGap, GapAtFront, begins_gap};
+
+use crate::runs::{begins_pair, line_len};
+
+// How many bytes of white space, or of a comment, the text begins with.
+fn piece_len(text: &[u8]) -> Option<usize>
+    ensures found { IfSome result (BeginsGap text.now) }
+    ensures none { IfNone result (begins_gap text.now ≡ false) }
+{
+    if begins_pair(text, b'/', b'/') {
+        return Some(2 + line_len(&text[2..]));
+    }
+    let first = text.first()?;
+    if first.is_ascii_whitespace() {
+        Some(1)
+    } else {
+        None
+    }
+}
+
+/// How many bytes of white space and comments the text begins with.
+pub(crate) fn gap_len(text: &[u8]) -> usize
+    ensures { GapAtFront text.now result }
+{
+    let mut len = 0;
+    while let Some(piece) = piece_len(&text[len..]) {
+        len += piece;
+    }
+    len
+}

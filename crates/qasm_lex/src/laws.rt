@@ -1,0 +1,15 @@
+//! What holds of every text. Each function does nothing: its contract is the law.
+
+ghost use Rattle.std.specs.Prelude.{◌≡◌, ◌⊎◌, ℕ, List};
+ghost use Rattle.qasm_lex.specs.declared.fault.LexFault.{LexFault};
+ghost use Rattle.qasm_lex.specs.declared.tokens.Token.{Token};
+ghost use Rattle.qasm_lex.specs.Reading.{AreTokens, IsFirstFault};
+
+/// Each text has a list of tokens or a first fault: one of both, one list at most, and one fault at
+/// most.
+pub fn one_answer()
+    ensures some { (text : List ℕ) → ((ts : List Token) × AreTokens text ts) ⊎ ((fault : LexFault) × IsFirstFault text fault) }
+    ensures one_list { (text : List ℕ) (ts others : List Token) → AreTokens text ts → AreTokens text others → ts ≡ others }
+    ensures one_fault { (text : List ℕ) (fault other : LexFault) → IsFirstFault text fault → IsFirstFault text other → fault ≡ other }
+    ensures not_both { (text : List ℕ) (ts : List Token) (fault : LexFault) → AreTokens text ts → IsFirstFault text fault → ⊥ }
+{}

@@ -1,0 +1,68 @@
+//! From a text to its tokens.
+
+ghost use Rattle.std.specs.Prelude.{◌≡◌, ◌≤◌, [], All, IfErr, IfNone, IfOk, IfSome, IsErrAnd, List, MatchResult, drop, length, ◌⊎◌};
+ghost use Rattle.qasm_lex.specs.declared.fault.LexFault.{LexFault};
+ghost use Rattle.qasm_lex.specs.declared.tokens.Token.{Token};
+ghost use Rattle.qasm_lex.specs.Gaps.{IsGap};
+ghost use Rattle.qasm_lex.specs.Reading.{AreTokens, IsFaultFrom, IsFaultOf, IsFirstFault, IsNextIn, IsTokenOf};
+
+use crate::fault::LexFault;
+use crate::gaps::gap_len;
+use crate::longest::token_at;
+use crate::runs::begins_with;
+use crate::tokens::Token;
+use std::alloc::Global;
+
+// The token behind the gap that begins at this place. `None` tells that the text ends behind it.
+fn next_token(text: &[u8], from: usize) -> Result<Option<Token>, LexFault>
+    requires short { length text.now ≤ 16777216 }
+    requires within { from ≤ length text.now }
+    ensures found { IfOk result (λ token. IfSome token (IsNextIn text.now from)) }
+    ensures end { IfOk result (λ token. IfNone token (IsGap (drop from text.now) [])) }
+    ensures fault { IfErr result (IsFaultFrom text.now from) }
+{
+    let start = from + gap_len(&text[from..]);
+    let rest = &text[start..];
+    if rest.is_empty() {
+        return Ok(None);
+    }
+    let at = start as u32;
+    if let Some((kind, len)) = token_at(rest) {
+        let end = (start + len) as u32;
+        return Ok(Some(Token {
+            kind,
+            start: at,
+            end,
+        }));
+    }
+    if begins_with(rest, b'"') {
+        Err(LexFault::OpenString { at })
+    } else {
+        Err(LexFault::BadByte { at })
+    }
+}
+
+/// The tokens of the text, in order. White space and comments, from `//` to the end of the line,
+/// stand between them and are no tokens.
+///
+/// The longest token that begins at a byte is taken. Where none does, the answer is `BadByte` at
+/// that byte, or `OpenString` where a string begins there that is not closed on its line; the first
+/// such byte decides. `NoMemory` tells that memory ran out. The tokens are those of OpenQASM 2.0
+/// (arXiv:1707.03429).
+pub fn lex(alloc: Global, text: &[u8]) -> Result<Vec<Token>, LexFault>
+    requires { length text.now ≤ 16777216 }
+    ensures tokens { IfOk result (λ found. AreTokens text.now found.items) }
+    ensures fault { IfErr result (IsFaultOf text.now) }
+    // A text of tokens is answered with them, and a fault with its place, unless memory runs out.
+    ensures read { (ts : List Token) → AreTokens text.now ts → MatchResult result (λ found. found.items ≡ ts) (λ e. e ≡ LexFault.NoMemory) }
+    ensures refused { (fault : LexFault) → IsFirstFault text.now fault → IsErrAnd result (λ e. (e ≡ fault) ⊎ (e ≡ LexFault.NoMemory)) }
+    ensures each { IfOk result (λ found. All (IsTokenOf text.now) found.items) }
+{
+    let mut tokens = Vec::new(alloc);
+    let mut from = 0;
+    while let Some(token) = next_token(text, from)? {
+        tokens.push(token)?;
+        from = token.end as usize;
+    }
+    Ok(tokens)
+}

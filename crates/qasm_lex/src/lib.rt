@@ -1,0 +1,18 @@
+//! The tokens of circuits, as texts in OpenQASM 2.0.
+#![tactic(auto)]
+
+mod fault;
+mod gaps;
+mod laws;
+mod lexing;
+mod longest;
+mod numbers;
+mod runs;
+#[cfg(test)]
+mod tests;
+mod tokens;
+
+pub use fault::LexFault;
+pub use laws::one_answer;
+pub use lexing::lex;
+pub use tokens::{Token, TokenKind};

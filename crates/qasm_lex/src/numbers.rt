@@ -1,0 +1,74 @@
+//! The longest number with which a text begins.
+
+ghost use Rattle.std.specs.Prelude.{◌≡◌, IfNone, IfSome, IsTrue};
+ghost use Rattle.qasm_lex.specs.Runs.{begins};
+ghost use Rattle.qasm_lex.specs.Tokens.{BeginsNoToken, ExponentAtFront, TokenAtFront, begins_number, fraction_size, is_exponent_letter, sign_size};
+
+use crate::runs::{begins_with, digits_len};
+use crate::tokens::TokenKind;
+
+// Whether the text begins with the letter of an exponent.
+fn begins_exponent(text: &[u8]) -> bool
+    ensures { result ≡ begins is_exponent_letter text.now }
+{
+    begins_with(text, b'e') || begins_with(text, b'E')
+}
+
+// How many bytes the sign of an exponent takes; 0 where there is none.
+fn sign_len(text: &[u8]) -> usize
+    ensures { result ≡ sign_size text.now }
+{
+    if begins_with(text, b'+') || begins_with(text, b'-') {
+        1
+    } else {
+        0
+    }
+}
+
+// How many bytes the exponent takes; 0 where there is none.
+#[tactic(auto, using(crate::proofs::RunLemmas::sizes))]
+fn exponent_len(text: &[u8]) -> usize
+    ensures { ExponentAtFront text.now result }
+{
+    if !begins_exponent(text) {
+        return 0;
+    }
+    let sign = sign_len(&text[1..]);
+    let digits = digits_len(&text[1 + sign..]);
+    if digits == 0 { 0 } else { 1 + sign + digits }
+}
+
+// How many bytes the point and the digits behind it take; 0 where there is no point.
+#[tactic(auto, using(crate::proofs::RunLemmas::sizes))]
+fn fraction_len(text: &[u8]) -> usize
+    ensures { result ≡ fraction_size text.now }
+{
+    if begins_with(text, b'.') {
+        1 + digits_len(&text[1..])
+    } else {
+        0
+    }
+}
+
+/// The number, and how many bytes it takes. `None` where there is a point alone.
+#[tactic(auto, using(crate::proofs::FrontLemmas::number_sizes))]
+pub(crate) fn number_at(text: &[u8]) -> Option<(TokenKind, usize)>
+    requires { IsTrue (begins begins_number text.now) }
+    ensures found { IfSome result (λ p. TokenAtFront text.now p.0 p.1) }
+    ensures none { IfNone result (BeginsNoToken text.now) }
+{
+    let whole = digits_len(text);
+    let fraction = fraction_len(&text[whole..]);
+    if whole == 0 && fraction == 1 {
+        return None;
+    }
+    let mantissa = whole + fraction;
+    let len = mantissa + exponent_len(&text[mantissa..]);
+    // Nothing but the digits before a point.
+    let kind = if len == whole {
+        TokenKind::Int
+    } else {
+        TokenKind::Real
+    };
+    Some((kind, len))
+}
