@@ -1,5 +1,5 @@
 -- A text has one list of tokens or one first fault, and not both.
-use Rattle.std.proofs.Common.{◌≡◌, ◌≢◌, ℕ, suc, zero, ◌+◌, ◌-◌, ◌<◌, ◌≤◌, inl, inr, ◌⊎◌, List, [], ◌∷◌, ◌++◌, length, take, drop, Option, Some, None, All, refl, sym, ap, ◌∙◌, subst, arith}
+use Rattle.std.proofs.Common.{◌≡◌, ℕ, ◌-◌, ◌≤◌, inl, inr, ◌⊎◌, List, [], ◌∷◌, ◌++◌, length, take, drop, Option, Some, None, All, refl, sym, ap, ◌∙◌, subst, arith}
 use Rattle.std.specs.List.{AllByRecursion, slice_get}
 use Rattle.std.proofs.lemmas.Bool.{cases_eq}
 use Rattle.std.proofs.lemmas.List.{length-append, length-drop, take_at, drop_at, drop-drop}
@@ -9,7 +9,7 @@ use Rattle.qasm_lex.specs.declared.fault.LexFault.{LexFault}
 use Rattle.qasm_lex.specs.declared.fault.LexFault.TheVariants.{BadByte, OpenString, NoMemory}
 use Rattle.qasm_lex.specs.Tokens.{IsToken}
 use Rattle.qasm_lex.specs.Reading.{AreTokens, IsFaultFrom, IsFaultOf, IsFirstFault, IsNext, IsStuckAt, IsTokenOf, Reads}
-use Rattle.qasm_lex.proofs.ReadingLemmas.{IsRead, reads-exists, reads-unique, some_bytes}
+use Rattle.qasm_lex.proofs.ReadingLemmas.{reads-exists, reads-unique, some_bytes}
 
 -- ---- one list of tokens
 

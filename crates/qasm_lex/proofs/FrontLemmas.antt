@@ -1,19 +1,19 @@
 -- The longest tokens by how many bytes they take, as the code finds them.
-use Rattle.std.proofs.Common.{◌≡◌, ◌≢◌, ℕ, suc, zero, ◌+◌, ◌-◌, ◌<◌, ◌≤◌, Bool, true, false, cond, eqb, inl, inr, ◌⊎◌, List, [], ◌∷◌, ◌++◌, length, get_or, take, drop, refl, sym, ap, ◌∙◌, subst, arith, ◌&&◌, ◌||◌}
+use Rattle.std.proofs.Common.{◌≡◌, ℕ, suc, zero, ◌+◌, ◌-◌, ◌<◌, ◌≤◌, Bool, true, false, cond, inl, inr, ◌⊎◌, List, [], ◌∷◌, ◌++◌, length, get_or, take, drop, refl, sym, ap, ◌∙◌, subst, arith}
 use Rattle.std.specs.Prelude.{◌==◌}
 use Rattle.std.specs.Char.{is_ascii_alphabetic, is_ascii_digit}
 use Rattle.std.specs.List.{list_all, prefix_len}
 use Rattle.std.proofs.lemmas.Bool.{and_from, and_parts, cases_lt, or_from, cond-true, cond-false, eqb-true, false≢true}
-use Rattle.std.proofs.lemmas.List.{append_assoc, append-nil, length-append, length-take-le, take_at, drop_at, take_rest, take-append-drop, drop-drop}
+use Rattle.std.proofs.lemmas.List.{append_assoc, length-append, length-take-le, take_at, drop_at, take_rest, take-append-drop, drop-drop}
 use Rattle.std.proofs.lemmas.List.Folds.{list_all-append}
 use Rattle.std.proofs.lemmas.List.Sums.{prefix_len-le-length}
 use Rattle.qasm_lex.specs.declared.tokens.TokenKind.{TokenKind}
-use Rattle.qasm_lex.specs.declared.tokens.TokenKind.TheVariants.{Word, Int, Real, Text, Arrow, Equal}
+use Rattle.qasm_lex.specs.declared.tokens.TokenKind.TheVariants.{Word, Int, Real, Text}
 use Rattle.qasm_lex.specs.Runs.{begins, begins_pair}
 use Rattle.qasm_lex.specs.Tokens.{BeginsNoToken, ExponentAtFront, IsLongest, IsPerhapsExponent, IsToken, TokenAtFront, begins_no_long, begins_number, fraction_size, is_exponent_letter, is_sign_byte, is_text_byte, is_word_byte, sign_size}
 use Rattle.qasm_lex.proofs.RunLemmas.{IsRun, heads, run_at, sizes, tails}
 use Rattle.qasm_lex.proofs.NumberLemmas.{digits_from, lone_point, longest_int, longest_power, longest_real, no_exponent, no_plain_exponent, no_signed_exponent, plain_exponent, signed_exponent}
-use Rattle.qasm_lex.proofs.TokenLemmas.{HasNoPair, longest_arrow, longest_equal, longest_short, longest_text, longest_word, no_sign, open_text}
+use Rattle.qasm_lex.proofs.TokenLemmas.{longest_short, longest_text, longest_word, no_sign, open_text}
 
 -- the bytes of a front are as many as it is long
 at_front :

@@ -1,16 +1,16 @@
 -- A text begins with one gap.
-use Rattle.std.proofs.Common.{◌≡◌, ◌≢◌, ℕ, suc, zero, ◌+◌, ◌-◌, ◌<◌, ◌≤◌, Bool, true, false, not, cond, eqb, inl, inr, ◌⊎◌, List, [], ◌∷◌, ◌++◌, length, take, drop, take-add, refl, sym, ap, ◌∙◌, subst, arith, ◌&&◌, ◌||◌}
+use Rattle.std.proofs.Common.{◌≡◌, ℕ, suc, zero, ◌+◌, ◌-◌, ◌≤◌, Bool, true, false, cond, inl, inr, ◌⊎◌, List, [], ◌∷◌, ◌++◌, length, take, drop, take-add, refl, sym, ap, ◌∙◌, subst, arith}
 use Rattle.std.specs.Prelude.{◌==◌}
 use Rattle.std.specs.Char.{is_ascii_whitespace}
 use Rattle.std.specs.List.{list_all, prefix_len}
-use Rattle.std.proofs.lemmas.Bool.{and_parts, and_from, cond-true, cond-false, or_cases, or_parts, eqb-true, false≢true, or_left}
+use Rattle.std.proofs.lemmas.Bool.{and_parts, cond-true, cond-false, or_cases, or_parts, eqb-true, false≢true}
 use Rattle.std.proofs.lemmas.Bool.Decides.{nat_tests}
-use Rattle.std.proofs.lemmas.List.{append_assoc, append-nil, length-append, take_at, drop_at, take-append-drop, length-drop, length-take-le, drop-drop, take_rest}
+use Rattle.std.proofs.lemmas.List.{append_assoc, length-append, take_at, drop_at, take-append-drop, length-drop, length-take-le, drop-drop, take_rest}
 use Rattle.std.proofs.lemmas.List.Sums.{prefix_len-le-length}
 use Rattle.qasm_lex.specs.Runs.{begins, begins_pair}
 use Rattle.qasm_lex.specs.Gaps.{BeginsGap, GapAtFront, IsGap, begins_gap, is_line_byte}
 use Rattle.qasm_lex.specs.Gaps.IsGap.{none, white, comment}
-use Rattle.qasm_lex.proofs.RunLemmas.{IsRun, heads, run_at, tails}
+use Rattle.qasm_lex.proofs.RunLemmas.{IsRun, run_at}
 
 -- two texts that are cut at one place have the same parts
 pub cut-unique : (a b c d : List ℕ) → length a ≡ length c → a ++ b ≡ c ++ d → (a ≡ c) × (b ≡ d)

@@ -1,14 +1,13 @@
 -- A text is read in one way.
-use Rattle.std.proofs.Common.{◌≡◌, ◌≢◌, ℕ, suc, zero, ◌+◌, ◌-◌, ◌<◌, ◌≤◌, Bool, true, false, cond, eqb, inl, inr, ◌⊎◌, List, [], ◌∷◌, ◌++◌, length, take, drop, Option, Some, None, refl, sym, ap, ◌∙◌, subst, arith, ◌&&◌, ◌||◌}
+use Rattle.std.proofs.Common.{◌≡◌, ℕ, suc, zero, ◌+◌, ◌-◌, ◌<◌, ◌≤◌, Bool, true, false, inl, inr, ◌⊎◌, List, [], ◌∷◌, ◌++◌, length, take, drop, Option, Some, None, refl, sym, ap, ◌∙◌, subst, arith}
 use Rattle.std.specs.Prelude.{◌==◌}
-use Rattle.std.specs.Char.{is_ascii_alphabetic, is_ascii_digit}
-use Rattle.std.specs.List.{list_all, prefix_len, slice_get}
-use Rattle.std.proofs.lemmas.Bool.{cases_Bool, eq-eqb, eqb-true, false≢true, or_parts}
+use Rattle.std.specs.List.{slice_get}
+use Rattle.std.proofs.lemmas.Bool.{eq-eqb, eqb-true, false≢true}
 use Rattle.std.proofs.lemmas.Bool.Decides.{nat_tests}
-use Rattle.std.proofs.lemmas.List.{append_assoc, append-nil, length-append, take_at, drop_at, take-append-drop, length-drop, length-take-le, drop-drop, nil_from_length, take_rest}
+use Rattle.std.proofs.lemmas.List.{append-nil, length-append, take-append-drop, length-drop, length-take-le, drop-drop, nil_from_length, take_rest}
 use Rattle.qasm_lex.specs.declared.tokens.Token.{Token}
 use Rattle.qasm_lex.specs.declared.tokens.TokenKind.{TokenKind}
-use Rattle.qasm_lex.specs.Runs.{begins, begins_pair}
+use Rattle.qasm_lex.specs.Runs.{begins}
 use Rattle.qasm_lex.specs.Tokens.{BeginsNoToken, IsLongest, IsToken, TokenAtFront}
 use Rattle.qasm_lex.specs.Gaps.{GapAtFront, IsGap}
 use Rattle.qasm_lex.specs.Reading.{IsNext, IsNextIn, IsStuck, Reads}

@@ -1,17 +1,16 @@
 -- Each text begins with a longest token, or with none.
-use Rattle.std.proofs.Common.{◌≡◌, ◌≢◌, ℕ, suc, zero, ◌+◌, ◌<◌, ◌≤◌, Bool, true, false, not, cond, eqb, inl, inr, ◌⊎◌, List, [], ◌∷◌, ◌++◌, length, take, drop, refl, sym, ap, ◌∙◌, subst, arith, ◌&&◌, ◌||◌}
+use Rattle.std.proofs.Common.{◌≡◌, ℕ, ◌<◌, Bool, true, false, inl, inr, ◌⊎◌, List, [], ◌∷◌, ◌++◌, length, take, drop, refl, sym, ap, ◌∙◌, subst, arith, ◌||◌}
 use Rattle.std.specs.Prelude.{◌==◌}
 use Rattle.std.specs.Char.{is_ascii_alphabetic, is_ascii_digit}
 use Rattle.std.specs.List.{list_all, prefix_len}
-use Rattle.std.proofs.lemmas.Bool.{and_from, and_parts, eqb-true, eq-eqb, false≢true, or_cases, or_from, or_parts, not_from_false}
-use Rattle.std.proofs.lemmas.Bool.Decides.{nat_tests}
-use Rattle.std.proofs.lemmas.List.{append_assoc, append-nil, length-append, take-append-drop}
+use Rattle.std.proofs.lemmas.Bool.{and_from, and_parts, eqb-true, false≢true, or_from, not_from_false}
+use Rattle.std.proofs.lemmas.List.{append_assoc, take-append-drop}
 use Rattle.std.proofs.lemmas.List.Folds.{list_all-append}
 use Rattle.qasm_lex.specs.declared.tokens.TokenKind.{TokenKind}
 use Rattle.qasm_lex.specs.declared.tokens.TokenKind.TheVariants.{Word, Int, Real, Text, Arrow, Equal}
 use Rattle.qasm_lex.specs.Runs.{begins, begins_pair}
 use Rattle.qasm_lex.specs.Tokens.{BeginsNoToken, IsLongest, IsPerhapsExponent, IsToken, begins_no_long, begins_number, is_exponent_letter, is_sign_byte, is_text_byte, is_word_byte}
-use Rattle.qasm_lex.proofs.RunLemmas.{IsRun, heads, run_at, tails}
+use Rattle.qasm_lex.proofs.RunLemmas.{IsRun, run_at}
 use Rattle.qasm_lex.proofs.NumberLemmas.{digits_from, lone_point, longest_int, longest_power, longest_real, no_exponent, no_plain_exponent, no_signed_exponent, plain_exponent, signed_exponent}
 use Rattle.qasm_lex.proofs.TokenLemmas.{HasNoPair, longest_arrow, longest_equal, longest_short, longest_text, longest_word, no_sign, open_text, short_or_none}
 

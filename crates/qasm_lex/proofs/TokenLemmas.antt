@@ -1,17 +1,17 @@
 -- The longest word, string and sign at the front of a text.
-use Rattle.std.proofs.Common.{◌≡◌, ◌≢◌, ℕ, suc, zero, ◌+◌, ◌<◌, ◌≤◌, Bool, true, false, cond, eqb, inl, inr, ◌⊎◌, List, [], ◌∷◌, ◌++◌, length, refl, sym, ap, ◌∙◌, subst, arith, ◌&&◌, ◌||◌}
+use Rattle.std.proofs.Common.{◌≡◌, ℕ, ◌≤◌, true, false, inl, inr, ◌⊎◌, List, [], ◌∷◌, ◌++◌, length, refl, sym, ap, ◌∙◌, subst, arith}
 use Rattle.std.specs.Prelude.{◌==◌}
 use Rattle.std.specs.Char.{is_ascii_alphabetic, is_ascii_digit}
 use Rattle.std.specs.List.{list_all}
-use Rattle.std.proofs.lemmas.Bool.{and_parts, and_from, cases_eq, eqb-true, false≢true}
+use Rattle.std.proofs.lemmas.Bool.{and_parts, and_from, cases_eq, false≢true}
 use Rattle.std.proofs.lemmas.Bool.Decides.{nat_tests}
 use Rattle.std.proofs.lemmas.List.{append_assoc, length-append}
 use Rattle.qasm_lex.specs.declared.tokens.TokenKind.{TokenKind}
 use Rattle.qasm_lex.specs.declared.tokens.TokenKind.TheVariants.{Word, Int, Real, Text, Semi, Comma, LParen, RParen, LBracket, RBracket, LBrace, RBrace, Plus, Minus, Times, Over, Power, Arrow, Equal}
 use Rattle.qasm_lex.specs.Runs.{begins, begins_pair}
-use Rattle.qasm_lex.specs.Tokens.{BeginsNoToken, IsLongest, IsQuoted, IsToken, begins_no_long, is_text_byte, is_word, is_word_byte}
+use Rattle.qasm_lex.specs.Tokens.{BeginsNoToken, IsLongest, IsToken, begins_no_long, is_text_byte, is_word, is_word_byte}
 use Rattle.qasm_lex.proofs.RunLemmas.{IsRun, heads, run-unique, run_longest-length, tails}
-use Rattle.qasm_lex.proofs.KindLemmas.{IsSignShape, no_digit_first, no_letter, no_number, not_empty, real_begins, sign_front, text_front, word_front}
+use Rattle.qasm_lex.proofs.KindLemmas.{IsSignShape, no_digit_first, no_letter, no_number, real_begins, sign_front, text_front, word_front}
 
 -- ---- words
 

@@ -1,5 +1,5 @@
 -- One more piece is passed, or no piece is left.
-use Rattle.std.proofs.Common.{ℕ, List, ◌+◌, ◌≡◌, false, length, take, drop, sym, ap, ◌∙◌, subst, arith, add_assoc, add-zero}
+use Rattle.std.proofs.Common.{ℕ, List, ◌+◌, ◌≡◌, false, drop, sym, subst, arith, add_assoc, add-zero}
 use Rattle.std.proofs.lemmas.List.{drop-drop, length-drop, take_rest}
 use Rattle.qasm_lex.specs.Gaps.{BeginsGap, GapAtFront, begins_gap}
 use Rattle.qasm_lex.proofs.GapLemmas.{gap_goes_on, no_gap}
