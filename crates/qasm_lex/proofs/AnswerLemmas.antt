@@ -8,7 +8,8 @@ use Rattle.qasm_lex.specs.declared.tokens.Token.{Token}
 use Rattle.qasm_lex.specs.declared.fault.LexFault.{LexFault}
 use Rattle.qasm_lex.specs.declared.fault.LexFault.TheVariants.{BadByte, OpenString, NoMemory}
 use Rattle.qasm_lex.specs.Tokens.{IsToken}
-use Rattle.qasm_lex.specs.Reading.{AreTokens, IsFaultFrom, IsFaultOf, IsFirstFault, IsNext, IsStuckAt, IsTokenOf, Reads}
+use Rattle.qasm_lex.specs.Reading.{AreTokens, IsFaultOf, IsFirstFault, IsNext, IsStuckAt, IsTokenOf, Reads}
+use Rattle.qasm_lex.specs.Fronts.{IsFaultFrom}
 use Rattle.qasm_lex.proofs.ReadingLemmas.{reads-exists, reads-unique, some_bytes}
 
 -- ---- one list of tokens
@@ -56,7 +57,7 @@ quote_or_not text at = by_byte (slice_get text at)
     by_byte (Some c) = elim (cases_eq c 34) [ inl is ↦ inl (ap (λ (n : ℕ). Some n) is) | inr other ↦ inr (λ h. let is : c ≡ 34 = cc in other is) ]
 
 pub tokens_or_fault : (text : List ℕ) → ((ts : List Token) × AreTokens text ts) ⊎ ((fault : LexFault) × IsFirstFault text fault)
-tokens_or_fault text = by_end (reads-exists text 0).ts (reads-exists text 0).stuck (reads-exists text 0).reads
+tokens_or_fault text = by_end (reads-exists text).ts (reads-exists text).stuck (reads-exists text).reads
   where
     by_end :
         (ts : List Token) (stuck : Option ℕ) → Reads text 0 ts stuck

@@ -10,7 +10,8 @@ use Rattle.std.proofs.lemmas.List.Sums.{prefix_len-le-length}
 use Rattle.qasm_lex.specs.declared.tokens.TokenKind.{TokenKind}
 use Rattle.qasm_lex.specs.declared.tokens.TokenKind.TheVariants.{Word, Int, Real, Text}
 use Rattle.qasm_lex.specs.Runs.{begins, begins_pair}
-use Rattle.qasm_lex.specs.Tokens.{BeginsNoToken, ExponentAtFront, IsLongest, IsPerhapsExponent, IsToken, TokenAtFront, begins_no_long, begins_number, fraction_size, is_exponent_letter, is_sign_byte, is_text_byte, is_word_byte, sign_size}
+use Rattle.qasm_lex.specs.Tokens.{BeginsNoToken, IsLongest, IsToken, is_exponent_letter, is_sign_byte, is_text_byte, is_word_byte}
+use Rattle.qasm_lex.specs.Fronts.{ExponentAtFront, IsPerhapsExponent, TokenAtFront, begins_no_long, begins_number, fraction_size, sign_size}
 use Rattle.qasm_lex.proofs.RunLemmas.{IsRun, heads, run_at, sizes, tails}
 use Rattle.qasm_lex.proofs.NumberLemmas.{digits_from, lone_point, longest_int, longest_power, longest_real, no_exponent, no_plain_exponent, no_signed_exponent, plain_exponent, signed_exponent}
 use Rattle.qasm_lex.proofs.TokenLemmas.{longest_short, longest_text, longest_word, no_sign, open_text}

@@ -8,7 +8,8 @@ use Rattle.std.proofs.lemmas.Bool.Decides.{nat_tests}
 use Rattle.std.proofs.lemmas.List.{append_assoc, length-append, take_at, drop_at, take-append-drop, length-drop, length-take-le, drop-drop, take_rest}
 use Rattle.std.proofs.lemmas.List.Sums.{prefix_len-le-length}
 use Rattle.qasm_lex.specs.Runs.{begins, begins_pair}
-use Rattle.qasm_lex.specs.Gaps.{BeginsGap, GapAtFront, IsGap, begins_gap, is_line_byte}
+use Rattle.qasm_lex.specs.Gaps.{IsGap, begins_gap, is_line_byte}
+use Rattle.qasm_lex.specs.Fronts.{BeginsGap, GapAtFront}
 use Rattle.qasm_lex.specs.Gaps.IsGap.{none, white, comment}
 use Rattle.qasm_lex.proofs.RunLemmas.{IsRun, run_at}
 

@@ -7,7 +7,8 @@ use Rattle.std.proofs.lemmas.Bool.Decides.{nat_tests}
 use Rattle.std.proofs.lemmas.List.Folds.{list_all-append}
 use Rattle.qasm_lex.specs.declared.tokens.TokenKind.{TokenKind}
 use Rattle.qasm_lex.specs.declared.tokens.TokenKind.TheVariants.{Word, Int, Real, Text, Semi, Comma, LParen, RParen, LBracket, RBracket, LBrace, RBrace, Plus, Minus, Times, Over, Power, Arrow, Equal}
-use Rattle.qasm_lex.specs.Tokens.{HasExponent, HasPoint, IsToken, are_digits, begins_no_long, begins_number, is_exponent, is_exponent_letter, is_word, IsQuoted}
+use Rattle.qasm_lex.specs.Tokens.{HasExponent, HasPoint, IsToken, are_digits, is_exponent, is_exponent_letter, is_word, IsQuoted}
+use Rattle.qasm_lex.specs.Fronts.{begins_no_long, begins_number}
 use Rattle.qasm_lex.specs.Runs.{begins}
 use Rattle.qasm_lex.proofs.RunLemmas.{heads}
 
@@ -61,7 +62,7 @@ point_kind (d ∷ whole) rest bytes all is =
     ∙ kind_of-number d (whole ++ 46 ∷ rest) false (digit_begins d (and_parts (is_ascii_digit d) (list_all is_ascii_digit whole) all).0)
     (not_all_digits (d ∷ whole) rest 46 refl)
 
-letter_no_digit : (c : ℕ) → is_exponent_letter c ≡ true → is_ascii_digit c ≡ false
+pub letter_no_digit : (c : ℕ) → is_exponent_letter c ≡ true → is_ascii_digit c ≡ false
 letter_no_digit c is = grind (arith, nat_tests)
 
 exponent_kind : (whole exponent bytes : List ℕ) → are_digits whole ≡ true → is_exponent exponent ≡ true → bytes ≡ whole ++ exponent → kind_of bytes ≡ Real

@@ -10,17 +10,15 @@ use Rattle.std.proofs.lemmas.List.Folds.{list_all-append}
 use Rattle.qasm_lex.specs.declared.tokens.TokenKind.{TokenKind}
 use Rattle.qasm_lex.specs.declared.tokens.TokenKind.TheVariants.{Int, Real}
 use Rattle.qasm_lex.specs.Runs.{begins}
-use Rattle.qasm_lex.specs.Tokens.{HasExponent, HasPoint, IsLongest, BeginsNoToken, IsPerhapsExponent, IsToken, are_digits, are_signed_digits, begins_number, is_exponent, is_exponent_letter, is_sign_byte}
+use Rattle.qasm_lex.specs.Tokens.{HasExponent, HasPoint, IsLongest, BeginsNoToken, IsToken, are_digits, are_signed_digits, is_exponent, is_exponent_letter, is_sign_byte}
+use Rattle.qasm_lex.specs.Fronts.{IsPerhapsExponent, begins_number}
 use Rattle.qasm_lex.proofs.RunLemmas.{IsRun, heads, run-unique, run_longest-length, tails}
-use Rattle.qasm_lex.proofs.KindLemmas.{digit_begins, number_front, whole_digits}
+use Rattle.qasm_lex.proofs.KindLemmas.{digit_begins, letter_no_digit, number_front, whole_digits}
 
 -- ---- exponents
 
 sign_no_digit : (c : ℕ) → is_sign_byte c ≡ true → is_ascii_digit c ≡ true → ⊥
 sign_no_digit c sign digit = grind (arith, nat_tests)
-
-letter_no_digit : (c : ℕ) → is_exponent_letter c ≡ true → is_ascii_digit c ≡ false
-letter_no_digit c is = grind (arith, nat_tests)
 
 no_sign : (c : ℕ) → is_ascii_digit c ≡ true → is_sign_byte c ≡ false
 no_sign c digit = grind (arith, nat_tests)
@@ -74,20 +72,6 @@ plain_within digits follows (c ∷ front) rest plain run is all = by_case (or_ca
     by_case (inr both) =
         let sign : is_sign_byte c ≡ true = (and_parts (is_sign_byte c) (are_digits front) both).0 in
         absurd (false≢true (sym plain ∙ ap (begins is_sign_byte) is ∙ sign))
-
--- an exponent's letter, and what follows it
-pub record IsLed (front : List ℕ) : Type 0 where
-  pub letter : ℕ
-  pub power : List ℕ
-  pub is_letter : is_exponent_letter letter ≡ true
-  pub signed : are_signed_digits power ≡ true
-  pub front_is : front ≡ letter ∷ power
-
-pub led : (front : List ℕ) → is_exponent front ≡ true → IsLed front
-led [] is = absurd (false≢true is)
-led (c ∷ cs) is =
-    let parts = and_parts (is_exponent_letter c) (are_signed_digits cs) is in
-    record { letter = c; power = cs; is_letter = parts.0; signed = parts.1; front_is = refl }
 
 -- no exponent where none of its letters stands
 pub no_exponent : (text : List ℕ) → begins is_exponent_letter text ≡ false → IsPerhapsExponent [] text

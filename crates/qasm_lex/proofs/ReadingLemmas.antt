@@ -2,15 +2,16 @@
 use Rattle.std.proofs.Common.{◌≡◌, ℕ, suc, zero, ◌+◌, ◌-◌, ◌<◌, ◌≤◌, Bool, true, false, inl, inr, ◌⊎◌, List, [], ◌∷◌, ◌++◌, length, take, drop, Option, Some, None, refl, sym, ap, ◌∙◌, subst, arith}
 use Rattle.std.specs.Prelude.{◌==◌}
 use Rattle.std.specs.List.{slice_get}
-use Rattle.std.proofs.lemmas.Bool.{eq-eqb, eqb-true, false≢true}
+use Rattle.std.proofs.lemmas.Bool.{cases_eq, eq-eqb, eqb-true, false≢true}
 use Rattle.std.proofs.lemmas.Bool.Decides.{nat_tests}
 use Rattle.std.proofs.lemmas.List.{append-nil, length-append, take-append-drop, length-drop, length-take-le, drop-drop, nil_from_length, take_rest}
 use Rattle.qasm_lex.specs.declared.tokens.Token.{Token}
 use Rattle.qasm_lex.specs.declared.tokens.TokenKind.{TokenKind}
 use Rattle.qasm_lex.specs.Runs.{begins}
-use Rattle.qasm_lex.specs.Tokens.{BeginsNoToken, IsLongest, IsToken, TokenAtFront}
-use Rattle.qasm_lex.specs.Gaps.{GapAtFront, IsGap}
-use Rattle.qasm_lex.specs.Reading.{IsNext, IsNextIn, IsStuck, Reads}
+use Rattle.qasm_lex.specs.Tokens.{BeginsNoToken, IsLongest, IsToken}
+use Rattle.qasm_lex.specs.Gaps.{IsGap}
+use Rattle.qasm_lex.specs.Reading.{IsNext, IsStuck, Reads}
+use Rattle.qasm_lex.specs.Fronts.{GapAtFront, IsNextIn, TokenAtFront}
 use Rattle.qasm_lex.proofs.KindLemmas.{kind-unique, not_empty}
 use Rattle.qasm_lex.proofs.GapLemmas.{cut-unique, gap-exists, gap-unique}
 use Rattle.qasm_lex.proofs.TokenExists.{HasLongest, token_or_none}
@@ -79,94 +80,12 @@ reads-unique left place (t ∷ ts) (u ∷ us) a b one two =
     (subst (λ (l : List ℕ). Reads l u.end us b) (sym heads.1) two.2) in
     let rest = reads-unique one.0 t.end ts us a b one.2 moved in ((λ i. heads.0 i ∷ rest.0 i), rest.1)
 
--- ---- each text is read
-
--- how a text is read from a place on
-pub record IsRead (left : List ℕ) (place : ℕ) : Type 0 where
-  pub ts : List Token
-  pub stuck : Option ℕ
-  pub reads : Reads left place ts stuck
+-- ---- as the code cuts a text
 
 -- the gap is put back before what stands behind it
 gap_before : (left : List ℕ) (len : ℕ) (next : List ℕ) → GapAtFront left len → drop len left ≡ next → (left ≡ take len left ++ next) × IsGap (take len left) next
 gap_before left len next gap is =
     (sym (take-append-drop len left) ∙ ap (λ (t : List ℕ). take len left ++ t) is, subst (λ (t : List ℕ). IsGap (take len left) t) is gap.is_gap)
-
--- a token's place as the code has it
-pub next_at :
-    (left : List ℕ) (place len : ℕ) (kind : TokenKind) (bytes follows : List ℕ) → GapAtFront left len → drop len left ≡ bytes ++ follows
-    → IsLongest kind bytes follows
-    → IsNext left place (record { kind = kind; start = place + length (take len left); end = place + length (take len left) + length bytes }) follows
-next_at left place len kind bytes follows gap is longest =
-    let parts = gap_before left len (bytes ++ follows) gap is in
-    record {
-      gap = take len left;
-      bytes = bytes;
-      left_is = parts.0;
-      is_gap = parts.1;
-      is_longest = longest;
-      start = refl;
-      end = refl;
-    }
-
-ends_at : (left : List ℕ) (place len : ℕ) → GapAtFront left len → drop len left ≡ [] → IsRead left place
-ends_at left place len gap is =
-    let parts = gap_before left len [] gap is in
-    record { ts = []; stuck = None; reads = subst (λ (t : List ℕ). IsGap t []) (sym (parts.0 ∙ append-nil (take len left))) parts.1 }
-
-stuck_at : (left : List ℕ) (place len : ℕ) (c : ℕ) (follows : List ℕ) → GapAtFront left len → drop len left ≡ c ∷ follows → BeginsNoToken (c ∷ follows) → IsRead left place
-stuck_at left place len c follows gap is none =
-    let parts = gap_before left len (c ∷ follows) gap is in
-    record {
-      ts = [];
-      stuck = Some (place + length (take len left));
-      reads = record {
-        gap = take len left;
-        follows = c ∷ follows;
-        left_is = parts.0;
-        is_gap = parts.1;
-        some = omega arith;
-        no_token = none;
-        at_is = refl;
-      };
-    }
-
--- reading goes on behind a token with what is left
-token_at : (left : List ℕ) (place len : ℕ) (next : List ℕ) → GapAtFront left len → drop len left ≡ next → (found : HasLongest next)
-    → ((rest : List ℕ) (at : ℕ) → length rest < length left → IsRead rest at) → IsRead left place
-token_at left place len next gap is found read =
-    let token = next_at left place len found.kind found.bytes found.follows gap (is ∙ found.text_is) found.is_longest in
-    let some = some_bytes found.kind found.bytes found.is_longest.token in
-    let shorter : length found.follows < length left =
-    omega (arith, some, ap length (is ∙ found.text_is), length-drop len left, length-append found.bytes found.follows) in
-    let end = place + length (take len left) + length found.bytes in
-    let rest = read found.follows end shorter in
-    record {
-      ts = record { kind = found.kind; start = place + length (take len left); end = end } ∷ rest.ts;
-      stuck = rest.stuck;
-      reads = (found.follows, token, rest.reads);
-    }
-
-read_next : (left : List ℕ) (place len : ℕ) (next : List ℕ) → GapAtFront left len → drop len left ≡ next
-    → ((rest : List ℕ) (at : ℕ) → length rest < length left → IsRead rest at) → IsRead left place
-read_next left place len [] gap is read = ends_at left place len gap is
-read_next left place len (c ∷ follows) gap is read = by_token (token_or_none (c ∷ follows) (omega arith))
-  where
-    by_token : HasLongest (c ∷ follows) ⊎ BeginsNoToken (c ∷ follows) → IsRead left place
-    by_token (inl found) = token_at left place len (c ∷ follows) gap is found read
-    by_token (inr none) = stuck_at left place len c follows gap is none
-
-read_within : (fuel : ℕ) (left : List ℕ) (place : ℕ) → length left < fuel → IsRead left place
-read_within zero left place few = absurd (omega arith)
-read_within (suc fuel) left place few =
-    let gap = gap-exists left in
-    read_next left place gap.0 (drop gap.0 left) gap.1 refl (λ rest at shorter. read_within fuel rest at (omega arith))
-
--- each text is read
-pub reads-exists : (left : List ℕ) (place : ℕ) → IsRead left place
-reads-exists left place = read_within (suc (length left)) left place (omega arith)
-
--- ---- as the code cuts a text
 
 -- the next token, where the gap and the token take so many bytes
 pub next_in :
@@ -256,3 +175,45 @@ quote_absent text at is there = false≢true (sym is ∙ ap (begins (λ c. c == 
 -- what is not empty has a byte
 pub some_left : (n : ℕ) (b : Bool) → b ≡ (n == 0) → b ≡ false → 0 < n
 some_left n b is other = grind (arith, nat_tests)
+
+-- ---- each text is read
+
+-- how a text is read from a place on
+pub record IsRead (left : List ℕ) (place : ℕ) : Type 0 where
+  pub ts : List Token
+  pub stuck : Option ℕ
+  pub reads : Reads left place ts stuck
+
+read_behind :
+    (text : List ℕ) (from g : ℕ) → from ≤ length text → GapAtFront (take (length text - from) (drop from text)) g
+    → ((at : ℕ) → at ≤ length text → from < at → IsRead (drop at text) at) → IsRead (drop from text) from
+read_behind text from g within gap read = by_length (cases_eq (length rest) 0)
+  where
+    rest : List ℕ
+    rest = take (length text - (from + g)) (drop (from + g) text)
+
+    by_token : 0 < length rest → HasLongest rest ⊎ BeginsNoToken rest → IsRead (drop from text) from
+    by_token some (inl found) =
+        let next = next_in text from g found.len found.kind within gap found.front in
+        let end = from + g + found.len in
+        let more = read end next.fits next.is_later in
+        record {
+          ts = record { kind = found.kind; start = from + g; end = end } ∷ more.ts;
+          stuck = more.stuck;
+          reads = (drop end text, next.is_next, more.reads);
+        }
+    by_token some (inr none) = record { ts = []; stuck = Some (from + g); reads = stuck_in text from g gap some none }
+
+    by_length : (length rest ≡ 0) ⊎ (length rest ≡ 0 → ⊥) → IsRead (drop from text) from
+    by_length (inl none) = record { ts = []; stuck = None; reads = ends_in text from g gap none }
+    by_length (inr other) = let some : 0 < length rest = omega (arith, other) in by_token some (token_or_none rest some)
+
+read_from : (fuel : ℕ) (text : List ℕ) (from : ℕ) → from ≤ length text → length text < from + fuel → IsRead (drop from text) from
+read_from zero text from within few = absurd (omega arith)
+read_from (suc fuel) text from within few =
+    let gap = gap-exists (take (length text - from) (drop from text)) in
+    read_behind text from gap.0 within gap.1 (λ at fits later. read_from fuel text at fits (omega arith))
+
+-- each text is read
+pub reads-exists : (text : List ℕ) → IsRead text 0
+reads-exists text = read_from (suc (length text)) text 0 (omega arith) (omega arith)

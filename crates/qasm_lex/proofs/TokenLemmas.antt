@@ -1,5 +1,5 @@
 -- The longest word, string and sign at the front of a text.
-use Rattle.std.proofs.Common.{◌≡◌, ℕ, ◌≤◌, true, false, inl, inr, ◌⊎◌, List, [], ◌∷◌, ◌++◌, length, refl, sym, ap, ◌∙◌, subst, arith}
+use Rattle.std.proofs.Common.{◌↔◌, ◌≡◌, ℕ, ◌≤◌, true, false, inl, inr, ◌⊎◌, List, [], ◌∷◌, ◌++◌, length, refl, sym, ap, ◌∙◌, subst, arith}
 use Rattle.std.specs.Prelude.{◌==◌}
 use Rattle.std.specs.Char.{is_ascii_alphabetic, is_ascii_digit}
 use Rattle.std.specs.List.{list_all}
@@ -9,7 +9,8 @@ use Rattle.std.proofs.lemmas.List.{append_assoc, length-append}
 use Rattle.qasm_lex.specs.declared.tokens.TokenKind.{TokenKind}
 use Rattle.qasm_lex.specs.declared.tokens.TokenKind.TheVariants.{Word, Int, Real, Text, Semi, Comma, LParen, RParen, LBracket, RBracket, LBrace, RBrace, Plus, Minus, Times, Over, Power, Arrow, Equal}
 use Rattle.qasm_lex.specs.Runs.{begins, begins_pair}
-use Rattle.qasm_lex.specs.Tokens.{BeginsNoToken, IsLongest, IsToken, begins_no_long, is_text_byte, is_word, is_word_byte}
+use Rattle.qasm_lex.specs.Tokens.{BeginsNoToken, IsLongest, IsToken, is_text_byte, is_word, is_word_byte}
+use Rattle.qasm_lex.specs.Fronts.{begins_no_long}
 use Rattle.qasm_lex.proofs.RunLemmas.{IsRun, heads, run-unique, run_longest-length, tails}
 use Rattle.qasm_lex.proofs.KindLemmas.{IsSignShape, no_digit_first, no_letter, no_number, real_begins, sign_front, text_front, word_front}
 
@@ -60,6 +61,20 @@ open_text inner follows run other = λ kind front rest same token.
     tails (same ∙ ap (λ (t : List ℕ). t ++ rest) quoted.bytes_are) ∙ append_assoc quoted.inner (34 ∷ []) rest in
     let parts = run-unique is_text_byte inner follows quoted.inner (34 ∷ rest) run (record { passes = quoted.plain; ends = refl }) cut in
     false≢true (sym other ∙ ap (begins (λ c. c == 34)) parts.1)
+
+-- a quote begins no token where no string from there on is closed on its line, and only there
+pub quote_open :
+    (rest : List ℕ) → BeginsNoToken (34 ∷ rest)
+    ↔ ((inner follows : List ℕ) → list_all is_text_byte inner ≡ true → rest ≡ inner ++ 34 ∷ follows → ⊥)
+quote_open rest = (
+  λ none inner follows plain is.
+      none Text (34 ∷ (inner ++ 34 ∷ [])) follows (ap (λ (t : List ℕ). 34 ∷ t) (is ∙ sym (append_assoc inner (34 ∷ []) follows)))
+      (record { inner = inner; plain = plain; bytes_are = refl }),
+  λ unclosed kind front more same token.
+      let quoted = text_front kind rest front more same token in
+      unclosed quoted.inner more quoted.plain
+      (tails (same ∙ ap (λ (t : List ℕ). t ++ more) quoted.bytes_are) ∙ append_assoc quoted.inner (34 ∷ []) more),
+)
 
 -- ---- signs
 

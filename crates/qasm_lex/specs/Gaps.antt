@@ -1,5 +1,5 @@
 -- White space and comments between tokens.
-use Rattle.std.specs.Prelude.{◌≡◌, ◌==◌, ℕ, ◌<◌, ◌≤◌, Bool, false, not, ◌||◌, IsTrue, List, [], ◌∷◌, ◌++◌, length, take, drop}
+use Rattle.std.specs.Prelude.{◌≡◌, ◌==◌, ℕ, Bool, false, not, ◌||◌, IsTrue, List, [], ◌∷◌, ◌++◌}
 use Rattle.std.specs.Char.{is_ascii_whitespace}
 use Rattle.std.specs.List.{list_all}
 use Rattle.qasm_lex.specs.Runs.{begins, begins_pair}
@@ -19,14 +19,3 @@ pub data IsGap : List ℕ → List ℕ → Type 0 where
   -- a comment has all the bytes up to the end of its line
   comment : (line : List ℕ) {gap : List ℕ} {follows : List ℕ} → IsTrue (list_all is_line_byte line) → begins is_line_byte (gap ++ follows) ≡ false → IsGap gap follows
       → IsGap (47 ∷ 47 ∷ (line ++ gap)) follows
-
--- the first bytes of the text, so many, are white space or a comment, and a gap goes on behind them
-pub record BeginsGap (text : List ℕ) (len : ℕ) : Type 0 where
-  pub some : 0 < len
-  pub fits : len ≤ length text
-  pub goes_on : (gap follows : List ℕ) → drop len text ≡ gap ++ follows → IsGap gap follows → IsGap (take len text ++ gap) follows
-
--- the first bytes of the text, so many, are the whole gap
-pub record GapAtFront (text : List ℕ) (len : ℕ) : Type 0 where
-  pub fits : len ≤ length text
-  pub is_gap : IsGap (take len text) (drop len text)

@@ -2,3 +2,4 @@ pub mod Runs
 pub mod Tokens
 pub mod Gaps
 pub mod Reading
+pub mod Fronts

@@ -53,18 +53,6 @@ IsFaultOf text (BadByte at) = IsFirstFault text (BadByte at)
 IsFaultOf text (OpenString at) = IsFirstFault text (OpenString at)
 IsFaultOf text NoMemory = Unit {0}
 
--- the fault that reading meets behind the gap at a place
-abbrev pub IsFaultFrom : List ℕ → ℕ → LexFault → Type 0
-IsFaultFrom text place (BadByte at) = IsStuck (drop place text) place at × (slice_get text at ≢ Some 34)
-IsFaultFrom text place (OpenString at) = IsStuck (drop place text) place at × (slice_get text at ≡ Some 34)
-IsFaultFrom text place NoMemory = ⊥
-
--- The token behind the gap at a place, with the text that follows it.
-pub record IsNextIn (text : List ℕ) (place : ℕ) (t : Token) : Type 0 where
-  pub fits : t.end ≤ length text
-  pub is_later : place < t.end
-  pub is_next : IsNext (drop place text) place t (drop t.end text)
-
 -- the token's bytes in its text are a token of its kind
 pub record IsTokenOf (text : List ℕ) (t : Token) : Type 0 where
   pub some : t.start < t.end

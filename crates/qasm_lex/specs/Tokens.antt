@@ -1,8 +1,7 @@
 -- Which bytes are a token, and which token is the longest.
-use Rattle.std.specs.Prelude.{◌≡◌, ◌==◌, ℕ, ◌+◌, ◌≤◌, Bool, false, not, ◌&&◌, ◌||◌, ◌⊎◌, IsTrue, List, [], ◌∷◌, ◌++◌, length, take, drop, codes, if◌then◌else◌}
+use Rattle.std.specs.Prelude.{◌≡◌, ◌==◌, ℕ, ◌≤◌, Bool, false, not, ◌&&◌, ◌||◌, ◌⊎◌, IsTrue, List, [], ◌∷◌, ◌++◌, length, codes}
 use Rattle.std.specs.Char.{is_ascii_alphabetic, is_ascii_alphanumeric, is_ascii_digit}
-use Rattle.std.specs.List.{list_all, prefix_len}
-use Rattle.qasm_lex.specs.Runs.{begins}
+use Rattle.std.specs.List.{list_all}
 use Rattle.qasm_lex.specs.declared.tokens.TokenKind.{TokenKind}
 use Rattle.qasm_lex.specs.declared.tokens.TokenKind.TheVariants.{Word, Int, Real, Text, Semi, Comma, LParen, RParen, LBracket, RBracket, LBrace, RBrace, Plus, Minus, Times, Over, Power, Arrow, Equal}
 
@@ -55,10 +54,6 @@ pub record HasExponent (bytes : List ℕ) : Type 0 where
   pub is_exponent : IsTrue (is_exponent exponent)
   pub bytes_are : bytes ≡ whole ++ exponent
 
--- a digit or a point
-abbrev pub begins_number : ℕ → Bool
-begins_number c = is_ascii_digit c || c == 46
-
 -- any byte but a quote and a line feed
 abbrev pub is_text_byte : ℕ → Bool
 is_text_byte c = not (c == 34 || c == 10)
@@ -68,10 +63,6 @@ pub record IsQuoted (bytes : List ℕ) : Type 0 where
   pub inner : List ℕ
   pub plain : IsTrue (list_all is_text_byte inner)
   pub bytes_are : bytes ≡ 34 ∷ (inner ++ 34 ∷ [])
-
--- any byte that begins no word, no number and no string
-abbrev pub begins_no_long : ℕ → Bool
-begins_no_long c = not (is_ascii_alphabetic c || (begins_number c || c == 34))
 
 -- the bytes are a token of this kind
 abbrev pub IsToken : TokenKind → List ℕ → Type 0
@@ -100,30 +91,6 @@ pub record IsLongest (kind : TokenKind) (bytes follows : List ℕ) : Type 0 wher
   pub token : IsToken kind bytes
   pub longest : (other : TokenKind) (front rest : List ℕ) → bytes ++ follows ≡ front ++ rest → IsToken other front → length front ≤ length bytes
 
--- the bytes are the longest exponent that stands there, or none where none does
-pub record IsPerhapsExponent (bytes follows : List ℕ) : Type 0 where
-  pub perhaps : (bytes ≡ []) ⊎ IsTrue (is_exponent bytes)
-  pub longest : (front rest : List ℕ) → bytes ++ follows ≡ front ++ rest → IsTrue (is_exponent front) → length front ≤ length bytes
-
 -- no token begins the text
 abbrev pub BeginsNoToken : List ℕ → Type 0
 BeginsNoToken text = (kind : TokenKind) (front rest : List ℕ) → text ≡ front ++ rest → IsToken kind front → ⊥
-
--- the first bytes of the text, so many, are the longest token
-pub record TokenAtFront (text : List ℕ) (kind : TokenKind) (len : ℕ) : Type 0 where
-  pub fits : len ≤ length text
-  pub is_longest : IsLongest kind (take len text) (drop len text)
-
--- the first bytes of the text, so many, are the longest exponent, or there are none and there is none
-pub record ExponentAtFront (text : List ℕ) (len : ℕ) : Type 0 where
-  pub fits : len ≤ length text
-  pub is_longest : IsPerhapsExponent (take len text) (drop len text)
-
--- how many bytes the sign takes
-abbrev pub sign_size : List ℕ → ℕ
-sign_size text = if begins is_sign_byte text then 1 else 0
-
--- how many bytes the point and the digits behind it take
-abbrev pub fraction_size : List ℕ → ℕ
-fraction_size [] = 0
-fraction_size (c ∷ rest) = if c == 46 then 1 + prefix_len is_ascii_digit rest else 0

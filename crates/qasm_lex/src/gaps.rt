@@ -1,7 +1,8 @@
 //! White space and comments.
 
 ghost use Rattle.std.specs.Prelude.{◌≡◌, false, IfNone, IfSome};
-ghost use Rattle.qasm_lex.specs.Gaps.{BeginsGap, GapAtFront, begins_gap};
+ghost use Rattle.qasm_lex.specs.Gaps.{begins_gap};
+ghost use Rattle.qasm_lex.specs.Fronts.{BeginsGap, GapAtFront};
 
 use crate::runs::{begins_pair, line_len};
 

@@ -4,7 +4,8 @@ ghost use Rattle.std.specs.Prelude.{◌≡◌, ◌≤◌, [], All, IfErr, IfNone
 ghost use Rattle.qasm_lex.specs.declared.fault.LexFault.{LexFault};
 ghost use Rattle.qasm_lex.specs.declared.tokens.Token.{Token};
 ghost use Rattle.qasm_lex.specs.Gaps.{IsGap};
-ghost use Rattle.qasm_lex.specs.Reading.{AreTokens, IsFaultFrom, IsFaultOf, IsFirstFault, IsNextIn, IsTokenOf};
+ghost use Rattle.qasm_lex.specs.Reading.{AreTokens, IsFaultOf, IsFirstFault, IsTokenOf};
+ghost use Rattle.qasm_lex.specs.Fronts.{IsFaultFrom, IsNextIn};
 
 use crate::fault::LexFault;
 use crate::gaps::gap_len;
@@ -43,12 +44,14 @@ fn next_token(text: &[u8], from: usize) -> Result<Option<Token>, LexFault>
 }
 
 /// The tokens of the text, in order. White space and comments, from `//` to the end of the line,
-/// stand between them and are no tokens.
+/// stand between them and are no tokens. The text has at most 16,777,216 bytes.
 ///
 /// The longest token that begins at a byte is taken. Where none does, the answer is `BadByte` at
 /// that byte, or `OpenString` where a string begins there that is not closed on its line; the first
-/// such byte decides. `NoMemory` tells that memory ran out. The tokens are those of OpenQASM 2.0
-/// (arXiv:1707.03429).
+/// such byte decides. `NoMemory` tells that memory ran out.
+///
+/// The tokens follow OpenQASM 2.0 (arXiv:1707.03429), but a word may begin with a capital letter and
+/// a number with zeros, and an exponent needs no point before it.
 pub fn lex(alloc: Global, text: &[u8]) -> Result<Vec<Token>, LexFault>
     requires { length text.now ≤ 16777216 }
     ensures tokens { IfOk result (λ found. AreTokens text.now found.items) }

@@ -13,6 +13,6 @@ mod tests;
 mod tokens;
 
 pub use fault::LexFault;
-pub use laws::one_answer;
+pub use laws::{one_answer, open_string};
 pub use lexing::lex;
 pub use tokens::{Token, TokenKind};

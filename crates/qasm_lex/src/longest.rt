@@ -4,7 +4,8 @@ ghost use Rattle.std.specs.Prelude.{◌==◌, [], ◌∷◌, IfNone, IfSome, IsT
 ghost use Rattle.std.specs.Char.{is_ascii_alphabetic};
 ghost use Rattle.qasm_lex.specs.declared.tokens.TokenKind.{TokenKind};
 ghost use Rattle.qasm_lex.specs.Runs.{begins};
-ghost use Rattle.qasm_lex.specs.Tokens.{BeginsNoToken, IsToken, TokenAtFront, begins_no_long};
+ghost use Rattle.qasm_lex.specs.Tokens.{BeginsNoToken, IsToken};
+ghost use Rattle.qasm_lex.specs.Fronts.{TokenAtFront, begins_no_long};
 
 use crate::numbers::number_at;
 use crate::runs::{begins_pair, begins_with, text_bytes_len, word_bytes_len};

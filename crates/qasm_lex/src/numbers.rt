@@ -2,7 +2,8 @@
 
 ghost use Rattle.std.specs.Prelude.{◌≡◌, IfNone, IfSome, IsTrue};
 ghost use Rattle.qasm_lex.specs.Runs.{begins};
-ghost use Rattle.qasm_lex.specs.Tokens.{BeginsNoToken, ExponentAtFront, TokenAtFront, begins_number, fraction_size, is_exponent_letter, sign_size};
+ghost use Rattle.qasm_lex.specs.Tokens.{BeginsNoToken, is_exponent_letter};
+ghost use Rattle.qasm_lex.specs.Fronts.{ExponentAtFront, TokenAtFront, begins_number, fraction_size, sign_size};
 
 use crate::runs::{begins_with, digits_len};
 use crate::tokens::TokenKind;

@@ -1,7 +1,8 @@
 -- One more piece is passed, or no piece is left.
 use Rattle.std.proofs.Common.{ℕ, List, ◌+◌, ◌≡◌, false, drop, sym, subst, arith, add_assoc, add-zero}
 use Rattle.std.proofs.lemmas.List.{drop-drop, length-drop, take_rest}
-use Rattle.qasm_lex.specs.Gaps.{BeginsGap, GapAtFront, begins_gap}
+use Rattle.qasm_lex.specs.Gaps.{begins_gap}
+use Rattle.qasm_lex.specs.Fronts.{BeginsGap, GapAtFront}
 use Rattle.qasm_lex.proofs.GapLemmas.{gap_goes_on, no_gap}
 use Rattle.qasm_lex.proofs.gaps.gap_len.Goals as goal
 

@@ -1,6 +1,6 @@
 -- A gap behind what was passed so far is one with it.
 use Rattle.std.proofs.Common.{ℕ, ◌+◌, ◌-◌, ◌≤◌, length, drop}
-use Rattle.qasm_lex.specs.Gaps.{GapAtFront}
+use Rattle.qasm_lex.specs.Fronts.{GapAtFront}
 use Rattle.qasm_lex.proofs.gaps.gap_len.Given as goal
 
 abbrev pub invariant-loop-piece : goal.invariant-loop-piece
