@@ -1,0 +1,73 @@
+//! The fields of a table, and the forms of their values.
+
+ghost use Rattle.std.specs.Prelude.{◌≡◌, ◌≢◌, None, Some, map, option_map, IfOk, IfErr};
+ghost use Rattle.toml.specs.Data.{get_member};
+ghost use Rattle.toml.specs.View.{view, table_view};
+ghost use Rattle.machine_text.specs.declared.fault.TextFault.TheVariants as fault;
+ghost use Rattle.machine_text.specs.Field.{has_unknown, whole_number, time_number, tables_in};
+ghost use Rattle.std.specs.List.{list_any};
+ghost use Rattle.std.specs.Str.{bytes_eq};
+
+use crate::fault::{Spot, TextFault};
+use std::alloc::{AllocError, Global};
+use toml::{Table, Value};
+
+/// Whether some field of the table has none of these names.
+pub(crate) fn has_unknown(table: &Table, names: &[&str]) -> bool
+    ensures { result ≡ has_unknown (map (λ name. name.now) names.now) (table_view table.now) }
+{
+    table.keys().any(|name| !is_among(name.as_str(), names))
+}
+
+/// Whether the name is one of these.
+fn is_among(name: &str, names: &[&str]) -> bool
+    ensures { result ≡ list_any (bytes_eq name.now) (map (λ other. other.now) names.now) }
+{
+    names.iter().any(|other| name == *other)
+}
+
+/// The value of a field that has to be there.
+pub(crate) fn required<'a>(table: &'a Table, name: &str, spot: Spot) -> Result<&'a Value, TextFault>
+    ensures ok { IfOk result (λ value. get_member name.now (table_view table.now) ≡ Some (view value.now)) }
+    ensures missing { IfErr result (λ e. (e ≡ fault.MissingField spot) × (get_member name.now (table_view table.now) ≡ None)) }
+{
+    table.get(name).ok_or(TextFault::MissingField { spot })
+}
+
+/// The number of a value that is a whole number from 0.
+pub(crate) fn whole_number(value: &Value) -> Option<u64>
+    ensures { result ≡ whole_number (view value.now) }
+{
+    match value.as_integer() {
+        Some(number) if number >= 0 => Some(number as u64),
+        _ => None,
+    }
+}
+
+/// The number of a value that is a whole number from 0 to 4,294,967,295.
+pub(crate) fn time_number(value: &Value) -> Option<u32>
+    ensures { result ≡ time_number (view value.now) }
+{
+    match whole_number(value) {
+        Some(number) if number <= 4294967295 => Some(number as u32),
+        _ => None,
+    }
+}
+
+/// The tables of a value that is an array of tables.
+pub(crate) fn tables<'a>(alloc: Global, value: &'a Value) -> Result<Option<Vec<&'a Table>>, AllocError>
+    ensures { IfOk result (λ found. option_map (λ rows. map (λ row. table_view row.now) rows.items) found
+        ≡ tables_in (view value.now)) }
+{
+    let Some(items) = value.as_array() else {
+        return Ok(None);
+    };
+    let mut tables = Vec::new(alloc);
+    for item in items {
+        let Some(table) = item.as_table() else {
+            return Ok(None);
+        };
+        tables.push(table)?;
+    }
+    Ok(Some(tables))
+}

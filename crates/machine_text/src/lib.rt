@@ -1,0 +1,7 @@
+//! Machines from the text of a file.
+#![tactic(auto)]
+
+mod fault;
+mod field;
+
+pub use fault::{Part, Spot, TextFault};
