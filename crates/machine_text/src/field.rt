@@ -4,11 +4,13 @@ ghost use Rattle.std.specs.Prelude.{◌≡◌, ◌≢◌, None, Some, map, optio
 ghost use Rattle.toml.specs.Data.{get_member};
 ghost use Rattle.toml.specs.View.{view, table_view};
 ghost use Rattle.machine_text.specs.declared.fault.TextFault.TheVariants as fault;
-ghost use Rattle.machine_text.specs.Field.{has_unknown, whole_number, time_number, tables_in};
+ghost use Rattle.machine_text.specs.Field.{has_unknown, whole_number, time_number, place_in, tables_in};
 ghost use Rattle.std.specs.List.{list_any};
 ghost use Rattle.std.specs.Str.{bytes_eq};
 
 use crate::fault::{Spot, TextFault};
+use crate::place::place_of;
+use qccd_machine::Place;
 use std::alloc::{AllocError, Global};
 use toml::{Table, Value};
 
@@ -51,6 +53,16 @@ pub(crate) fn time_number(value: &Value) -> Option<u32>
     match whole_number(value) {
         Some(number) if number <= 4294967295 => Some(number as u32),
         _ => None,
+    }
+}
+
+/// The place of a value that is the text of one.
+pub(crate) fn place(value: &Value) -> Option<Place>
+    ensures { result ≡ place_in (view value.now) }
+{
+    match value.as_str() {
+        Some(text) => place_of(text.as_bytes()),
+        None => None,
     }
 }
 

@@ -3,5 +3,6 @@
 
 mod fault;
 mod field;
+mod place;
 
 pub use fault::{Part, Spot, TextFault};
