@@ -1,5 +1,5 @@
 -- What may be wrong with the table of a machine's file, in the order in which it is looked for.
-use Rattle.std.specs.Prelude.{ℕ, ◌+◌, Bool, if◌then◌else◌, List, [], ◌∷◌, ◌++◌, Option, None, Some, codes, flat_map}
+use Rattle.std.specs.Prelude.{◌≡◌, ℕ, ◌+◌, Bool, if◌then◌else◌, List, [], ◌∷◌, ◌++◌, Option, None, Some, codes, flat_map}
 use Rattle.std.specs.List.{range_with_len}
 use Rattle.toml.specs.Data.{Members, no_members, as_table}
 use Rattle.qccd_machine.specs.TimeName.{time_names, time_name_of}
@@ -19,6 +19,14 @@ Check = TextFault × Bool
 abbrev pub first_of : List Check → Option TextFault
 first_of [] = None
 first_of (check ∷ more) = if check.1 then Some check.0 else first_of more
+
+-- none of the checks applies
+abbrev pub NoneApplies : List Check → Type 0
+NoneApplies checks = first_of checks ≡ None
+
+-- this is the first refusal that applies
+abbrev pub IsFirstOf : List Check → TextFault → Type 0
+IsFirstOf checks fault = first_of checks ≡ Some fault
 
 abbrev pub spot : Part → ℕ → Spot
 spot part row = record { part = part; row = row }
@@ -66,6 +74,10 @@ end_a_in segment = found place_in (codes "a") segment
 
 abbrev pub end_b_in : Members → Found Place
 end_b_in segment = found place_in (codes "b") segment
+
+-- what stands under the names of the two ends
+abbrev pub ends_in : Members → Found Place × Found Place
+ends_in segment = (end_a_in segment, end_b_in segment)
 
 abbrev pub segment_names : List (List ℕ)
 segment_names = codes "a" ∷ codes "b" ∷ []

@@ -11,15 +11,11 @@ use Rattle.qccd_machine.specs.Fault.{IsFirst}
 use Rattle.machine_text.specs.declared.fault.TextFault.{TextFault}
 use Rattle.machine_text.specs.declared.fault.TextFault.TheVariants.{NotToml, MissingField, WrongValue, UnknownField, Machine, NoMemory}
 use Rattle.machine_text.specs.Field.{Found, given, given_or}
-use Rattle.machine_text.specs.Checks.{first_of, capacity_in, traps_in, end_a_in, end_b_in, segments_in, time_in, times_in, junctions_in, document_checks}
+use Rattle.machine_text.specs.Checks.{NoneApplies, IsFirstOf, capacity_in, traps_in, ends_in, segments_in, time_in, times_in, junctions_in, document_checks}
 
 -- the text is TOML, and this is its table
 abbrev pub IsTableOf : List ℕ → Members → Type 0
 IsTableOf text fields = IsUtf8 text × (parse_document text ≡ Some fields)
-
--- what stands under the names of the two ends of a segment
-abbrev pub ends_in : Members → Found Place × Found Place
-ends_in segment = (end_a_in segment, end_b_in segment)
 
 abbrev pub given_ends : Place × Place → Found Place × Found Place
 given_ends ends = (given ends.0, given ends.1)
@@ -54,7 +50,7 @@ pub record Describes (fields : Members) (m : MachineData) : Type 0 where
 pub record IsMachineOf (text : List ℕ) (m : MachineData) : Type 0 where
   pub fields : Members
   pub is_table : IsTableOf text fields
-  pub none_wrong : first_of (document_checks fields) ≡ None
+  pub none_wrong : NoneApplies (document_checks fields)
   pub describes : Describes fields m
   pub valid : IsValid m
 
@@ -62,7 +58,7 @@ pub record IsMachineOf (text : List ℕ) (m : MachineData) : Type 0 where
 pub record IsRefusedParts (text : List ℕ) (fault : MachineFault) : Type 0 where
   pub fields : Members
   pub is_table : IsTableOf text fields
-  pub none_wrong : first_of (document_checks fields) ≡ None
+  pub none_wrong : NoneApplies (document_checks fields)
   pub parts : MachineData
   pub describes : Describes fields parts
   pub first : IsFirst parts fault
@@ -71,7 +67,7 @@ pub record IsRefusedParts (text : List ℕ) (fault : MachineFault) : Type 0 wher
 pub record IsRefusedField (text : List ℕ) (fault : TextFault) : Type 0 where
   pub fields : Members
   pub is_table : IsTableOf text fields
-  pub first : first_of (document_checks fields) ≡ Some fault
+  pub first : IsFirstOf (document_checks fields) fault
 
 -- the text is refused for this
 abbrev pub IsRefusalOf : List ℕ → TextFault → Type 0

@@ -1,9 +1,11 @@
 //! The fields of a table, and the forms of their values.
 
-ghost use Rattle.std.specs.Prelude.{◌≡◌, ◌≢◌, None, Some, map, option_map, IfOk, IfErr};
+ghost use Rattle.std.specs.Prelude.{◌≡◌, ◌≢◌, None, Some, option_map, IfOk, OnOk, IfErr};
 ghost use Rattle.toml.specs.Data.{get_member};
 ghost use Rattle.toml.specs.View.{view, table_view};
 ghost use Rattle.machine_text.specs.declared.fault.TextFault.TheVariants as fault;
+ghost use Rattle.machine_text.specs.Checks.{NoneApplies, IsFirstOf, known_checks};
+ghost use Rattle.machine_text.specs.Texts.{texts_of, tables_of};
 ghost use Rattle.machine_text.specs.Field.{has_unknown, whole_number, time_number, place_in, tables_in};
 ghost use Rattle.std.specs.List.{list_any};
 ghost use Rattle.std.specs.Str.{bytes_eq};
@@ -16,24 +18,44 @@ use toml::{Table, Value};
 
 /// Whether some field of the table has none of these names.
 pub(crate) fn has_unknown(table: &Table, names: &[&str]) -> bool
-    ensures { result ≡ has_unknown (map (λ name. name.now) names.now) (table_view table.now) }
+    ensures { result ≡ has_unknown (texts_of names.now) (table_view table.now) }
 {
     table.keys().any(|name| !is_among(name.as_str(), names))
 }
 
 /// Whether the name is one of these.
 fn is_among(name: &str, names: &[&str]) -> bool
-    ensures { result ≡ list_any (bytes_eq name.now) (map (λ other. other.now) names.now) }
+    ensures { result ≡ list_any (bytes_eq name.now) (texts_of names.now) }
 {
     names.iter().any(|other| name == *other)
+}
+
+/// That each field of the table has one of these names.
+pub(crate) fn known_fields(table: &Table, names: &[&str], spot: Spot) -> Result<(), TextFault>
+    ensures ok { OnOk result (NoneApplies (known_checks spot (texts_of names.now) (table_view table.now))) }
+    ensures refused { IfErr result (IsFirstOf (known_checks spot (texts_of names.now) (table_view table.now))) }
+{
+    if has_unknown(table, names) {
+        Err(TextFault::UnknownField { spot })
+    } else {
+        Ok(())
+    }
+}
+
+/// The value of the field, where the table has it.
+pub(crate) fn field<'a>(table: &'a Table, name: &str) -> Option<&'a Value>
+    ensures { option_map (λ value. view value.now) result ≡ get_member name.now (table_view table.now) }
+{
+    table.get(name)
 }
 
 /// The value of a field that has to be there.
 pub(crate) fn required<'a>(table: &'a Table, name: &str, spot: Spot) -> Result<&'a Value, TextFault>
     ensures ok { IfOk result (λ value. get_member name.now (table_view table.now) ≡ Some (view value.now)) }
-    ensures missing { IfErr result (λ e. (e ≡ fault.MissingField spot) × (get_member name.now (table_view table.now) ≡ None)) }
+    ensures missing { IfErr result (λ e. (e ≡ fault.MissingField spot)
+        × (get_member name.now (table_view table.now) ≡ None)) }
 {
-    table.get(name).ok_or(TextFault::MissingField { spot })
+    field(table, name).ok_or(TextFault::MissingField { spot })
 }
 
 /// The number of a value that is a whole number from 0.
@@ -68,7 +90,7 @@ pub(crate) fn place(value: &Value) -> Option<Place>
 
 /// The tables of a value that is an array of tables.
 pub(crate) fn tables<'a>(alloc: Global, value: &'a Value) -> Result<Option<Vec<&'a Table>>, AllocError>
-    ensures { IfOk result (λ found. option_map (λ rows. map (λ row. table_view row.now) rows.items) found
+    ensures { IfOk result (λ found. option_map (λ rows. tables_of rows.items) found
         ≡ tables_in (view value.now)) }
 {
     let Some(items) = value.as_array() else {

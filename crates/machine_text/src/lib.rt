@@ -3,6 +3,7 @@
 
 mod fault;
 mod field;
+mod parts;
 mod place;
 
 pub use fault::{Part, Spot, TextFault};
