@@ -1,2 +1,4 @@
 pub mod Fields
 pub mod PlaceTexts
+pub mod Order
+pub mod Refusals

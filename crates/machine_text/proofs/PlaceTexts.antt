@@ -1,16 +1,14 @@
 -- A text names one place at most.
-use Rattle.std.proofs.Common.{◌≡◌, ◌≢◌, ℕ, zero, suc, ◌+◌, ◌^◌, ◌<◌, ◌≤◌, Bool, true, false, List, [], ◌∷◌, ◌++◌, get_or, Option, Some, None, IfSome, Result, Ok, Err, OkIff, find, codes, decimal, refl, sym, ap, subst, ◌∙◌, arith}
+use Rattle.std.proofs.Common.{◌≡◌, ◌≢◌, ℕ, zero, suc, ◌+◌, ◌<◌, ◌≤◌, Bool, true, false, List, [], ◌∷◌, ◌++◌, get_or, Some, None, IfSome, Result, Ok, Err, OkIff, find, codes, decimal, refl, sym, ap, subst, ◌∙◌, arith}
 use Rattle.std.specs.List.{flat_map, range_with_len}
 use Rattle.std.specs.Result.{result_ok}
 use Rattle.std.specs.Str.{bytes_eq}
 use Rattle.std.proofs.lemmas.Bool.{false≢true}
 use Rattle.std.proofs.lemmas.Fmt.{decimal_injective}
-use Rattle.std.proofs.lemmas.List.{append_cancel_left, append_cancel_right, append-nil}
+use Rattle.std.proofs.lemmas.List.{append_cancel_left, append-nil}
 use Rattle.std.proofs.lemmas.Slice.Eq.{bytes_eq-Decides}
 use Rattle.qccd_base.proofs.Decimal.{IsDigit, Ends, decimal-front-unique}
 use Rattle.qccd_base.specs.declared.names.TrapId.{TrapId}
-use Rattle.qccd_base.specs.declared.names.JuncId.{JuncId}
-use Rattle.qccd_base.specs.declared.names.End.{End}
 use Rattle.qccd_base.specs.declared.names.End.TheVariants.{Left, Right}
 use Rattle.qccd_machine.specs.declared.place.Place.{Place}
 use Rattle.qccd_machine.specs.declared.place.Place.TheVariants.{TrapEnd, Junction}
@@ -117,6 +115,7 @@ place_of-none text apart = sym (find_none (λ q. bytes_eq text (place_text q)) 0
     not_same : (q : Place) (b : Bool) → bytes_eq text (place_text q) ≡ b → (text ≢ place_text q) → b ≡ false
     not_same q true is apart = absurd (apart ((bytes_eq-Decides text (place_text q)).0 is))
     not_same q false is apart = refl
+
     other : (q : Place) → place_number q < 0 + 256 → bytes_eq text (place_text q) ≡ false
     other q few = not_same q _ refl (apart q (omega arith))
 

@@ -1,10 +1,11 @@
 -- Which machine a text is that of, and for what a text is refused.
-use Rattle.std.specs.Prelude.{◌≡◌, ℕ, List, [], map, None, Some, IsUtf8}
+use Rattle.std.specs.Prelude.{◌≡◌, ℕ, List, [], map, Some, IsUtf8}
 use Rattle.toml.specs.Data.{Members, no_members}
 use Rattle.toml.specs.Parse.{parse_document}
 use Rattle.qccd_base.specs.declared.times.Times.{Times}
 use Rattle.qccd_base.specs.Times.{usual}
 use Rattle.qccd_machine.specs.declared.fault.MachineFault.{MachineFault}
+use Rattle.qccd_machine.specs.declared.fault.MachineFault.TheVariants as machine
 use Rattle.qccd_machine.specs.declared.place.Place.{Place}
 use Rattle.qccd_machine.specs.Machine.{MachineData, IsValid}
 use Rattle.qccd_machine.specs.Fault.{IsFirst}
@@ -77,3 +78,8 @@ IsRefusalOf text (WrongValue at) = IsRefusedField text (WrongValue at)
 IsRefusalOf text (UnknownField at) = IsRefusedField text (UnknownField at)
 IsRefusalOf text (Machine fault) = IsRefusedParts text fault
 IsRefusalOf text NoMemory = ⊥
+
+-- a fault of the parts as one of the text
+abbrev pub text_fault_of : MachineFault → TextFault
+text_fault_of machine.NoMemory = NoMemory
+text_fault_of fault = Machine fault

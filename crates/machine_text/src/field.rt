@@ -89,7 +89,10 @@ pub(crate) fn place(value: &Value) -> Option<Place>
 }
 
 /// The tables of a value that is an array of tables.
-pub(crate) fn tables<'a>(alloc: Global, value: &'a Value) -> Result<Option<Vec<&'a Table>>, AllocError>
+pub(crate) fn tables<'a>(
+    alloc: Global,
+    value: &'a Value,
+) -> Result<Option<Vec<&'a Table>>, AllocError>
     ensures { IfOk result (λ found. option_map (λ rows. tables_of rows.items) found
         ≡ tables_in (view value.now)) }
 {

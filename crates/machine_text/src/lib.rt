@@ -5,5 +5,7 @@ mod fault;
 mod field;
 mod parts;
 mod place;
+mod reader;
 
 pub use fault::{Part, Spot, TextFault};
+pub use reader::read_machine;

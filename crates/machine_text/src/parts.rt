@@ -8,14 +8,21 @@ ghost use Rattle.machine_text.specs.Checks.{NoneApplies, IsFirstOf, row_checks, 
 ghost use Rattle.machine_text.specs.declared.fault.Part.TheVariants as part;
 ghost use Rattle.machine_text.specs.Field.{found, given, given_or, place_in};
 ghost use Rattle.machine_text.specs.Machine.{given_ends, described_times, Describes};
+ghost use Rattle.qccd_machine.specs.Fault.{data_of};
 ghost use Rattle.machine_text.specs.Texts.{tables_of};
 
 use crate::fault::{Part, Spot, TextFault};
 use crate::field::{field, known_fields, place, required, tables, time_number, whole_number};
 use qccd_base::Times;
-use qccd_machine::{Place, time_name};
+use qccd_machine::{Parts, Place, time_name};
 use std::alloc::Global;
 use toml::Table;
+
+// The fields of `time`, in the order of those of `Times`.
+const TIME_NAMES: [&str; 12] = [
+    "split", "merge", "move", "cross2", "cross3", "cross4", "rot", "gate1", "measure", "reset",
+    "gate2", "between",
+];
 
 /// The capacity of the trap with this number, whose table this is.
 fn trap(table: &Table, row: u64) -> Result<u64, TextFault>
@@ -23,8 +30,18 @@ fn trap(table: &Table, row: u64) -> Result<u64, TextFault>
     ensures capacity { IfOk result (λ n. capacity_in (table_view table.now) ≡ given n) }
     ensures refused { IfErr result (IsFirstOf (trap_checks row (table_view table.now))) }
 {
-    known_fields(table, &["capacity"], Spot { part: Part::Trap, row })?;
-    let spot = Spot { part: Part::Capacity, row };
+    known_fields(
+        table,
+        &["capacity"],
+        Spot {
+            part: Part::Trap,
+            row,
+        },
+    )?;
+    let spot = Spot {
+        part: Part::Capacity,
+        row,
+    };
     let value = required(table, "capacity", spot)?;
     whole_number(value).ok_or(TextFault::WrongValue { spot })
 }
@@ -44,9 +61,30 @@ fn segment(table: &Table, row: u64) -> Result<(Place, Place), TextFault>
     ensures ends { IfOk result (λ p. ends_in (table_view table.now) ≡ given_ends p) }
     ensures refused { IfErr result (IsFirstOf (segment_checks row (table_view table.now))) }
 {
-    known_fields(table, &["a", "b"], Spot { part: Part::Segment, row })?;
-    let a = end(table, "a", Spot { part: Part::EndA, row })?;
-    let b = end(table, "b", Spot { part: Part::EndB, row })?;
+    known_fields(
+        table,
+        &["a", "b"],
+        Spot {
+            part: Part::Segment,
+            row,
+        },
+    )?;
+    let a = end(
+        table,
+        "a",
+        Spot {
+            part: Part::EndA,
+            row,
+        },
+    )?;
+    let b = end(
+        table,
+        "b",
+        Spot {
+            part: Part::EndB,
+            row,
+        },
+    )?;
     Ok((a, b))
 }
 
@@ -56,7 +94,10 @@ fn time(table: &Table, place: u8, usual: u32) -> Result<u32, TextFault>
     ensures value { IfOk result (λ t. given_or usual (time_in place (table_view table.now)) ≡ t) }
     ensures refused { IfErr result (IsFirstOf (time_check (table_view table.now) place)) }
 {
-    let spot = Spot { part: Part::TimeField(place), row: 0 };
+    let spot = Spot {
+        part: Part::TimeField(place),
+        row: 0,
+    };
     match field(table, time_name(place)) {
         Some(value) => time_number(value).ok_or(TextFault::WrongValue { spot }),
         None => Ok(usual),
@@ -69,9 +110,148 @@ fn junctions(table: &Table) -> Result<u64, TextFault>
     ensures count { IfOk result (λ n. given_or 0 (junctions_in (table_view table.now)) ≡ n) }
     ensures refused { IfErr result (IsFirstOf (optional_checks (spot part.Junctions 0) (junctions_in (table_view table.now)))) }
 {
-    let spot = Spot { part: Part::Junctions, row: 0 };
+    let spot = Spot {
+        part: Part::Junctions,
+        row: 0,
+    };
     match field(table, "junctions") {
         Some(value) => whole_number(value).ok_or(TextFault::WrongValue { spot }),
         None => Ok(0),
     }
+}
+
+/// The capacities of the traps whose tables these are.
+fn capacities(alloc: Global, rows: &[&Table]) -> Result<Vec<u64>, TextFault>
+    ensures passed { OnOk result (NoneApplies (row_checks trap_checks 0 (tables_of rows.now))) }
+    ensures capacities { IfOk result (λ v. map capacity_in (tables_of rows.now) ≡ map given v.items) }
+    ensures refused { IfErr result (λ e. e ≢ fault.NoMemory
+        → IsFirstOf (row_checks trap_checks 0 (tables_of rows.now)) e) }
+{
+    let mut capacities = Vec::new(alloc);
+    for (row, table) in rows.iter().enumerate() {
+        capacities.push(trap(table, row as u64)?)?;
+    }
+    Ok(capacities)
+}
+
+/// The ends of the segments whose tables these are.
+fn ends(alloc: Global, rows: &[&Table]) -> Result<Vec<(Place, Place)>, TextFault>
+    ensures passed { OnOk result (NoneApplies (row_checks segment_checks 0 (tables_of rows.now))) }
+    ensures ends { IfOk result (λ v. map ends_in (tables_of rows.now) ≡ map given_ends v.items) }
+    ensures refused { IfErr result (λ e. e ≢ fault.NoMemory
+        → IsFirstOf (row_checks segment_checks 0 (tables_of rows.now)) e) }
+{
+    let mut ends = Vec::new(alloc);
+    for (row, table) in rows.iter().enumerate() {
+        ends.push(segment(table, row as u64)?)?;
+    }
+    Ok(ends)
+}
+
+/// The capacities of all traps.
+fn traps(alloc: Global, table: &Table) -> Result<Vec<u64>, TextFault>
+    ensures passed { OnOk result (NoneApplies (all_trap_checks (table_view table.now))) }
+    ensures capacities { IfOk result (λ v. map capacity_in (given_or [] (traps_in (table_view table.now))) ≡ map given v.items) }
+    ensures refused { IfErr result (λ e. e ≢ fault.NoMemory → IsFirstOf (all_trap_checks (table_view table.now)) e) }
+{
+    let spot = Spot {
+        part: Part::Trap,
+        row: 0,
+    };
+    let value = required(table, "trap", spot)?;
+    let rows = tables(alloc, value)?.ok_or(TextFault::WrongValue { spot })?;
+    capacities(alloc, rows.as_slice())
+}
+
+/// The ends of all segments.
+fn segments(alloc: Global, table: &Table) -> Result<Vec<(Place, Place)>, TextFault>
+    ensures passed { OnOk result (NoneApplies (all_segment_checks (table_view table.now))) }
+    ensures ends { IfOk result (λ v. map ends_in (given_or [] (segments_in (table_view table.now))) ≡ map given_ends v.items) }
+    ensures refused { IfErr result (λ e. e ≢ fault.NoMemory → IsFirstOf (all_segment_checks (table_view table.now)) e) }
+{
+    let spot = Spot {
+        part: Part::Segment,
+        row: 0,
+    };
+    let Some(value) = field(table, "segment") else {
+        return Ok(Vec::new(alloc));
+    };
+    let rows = tables(alloc, value)?.ok_or(TextFault::WrongValue { spot })?;
+    ends(alloc, rows.as_slice())
+}
+
+/// The times, where this is the table of those that are given.
+fn given_times(table: &Table) -> Result<Times, TextFault>
+    ensures passed { OnOk result (NoneApplies (time_table_checks (table_view table.now))) }
+    ensures times { IfOk result (λ t. described_times (table_view table.now) ≡ t) }
+    ensures refused { IfErr result (IsFirstOf (time_table_checks (table_view table.now))) }
+{
+    known_fields(
+        table,
+        &TIME_NAMES,
+        Spot {
+            part: Part::Time,
+            row: 0,
+        },
+    )?;
+    let usual = Times::usual();
+    Ok(Times {
+        split: time(table, 0, usual.split)?,
+        merge: time(table, 1, usual.merge)?,
+        shift: time(table, 2, usual.shift)?,
+        cross2: time(table, 3, usual.cross2)?,
+        cross3: time(table, 4, usual.cross3)?,
+        cross4: time(table, 5, usual.cross4)?,
+        rot: time(table, 6, usual.rot)?,
+        gate1: time(table, 7, usual.gate1)?,
+        measure: time(table, 8, usual.measure)?,
+        reset: time(table, 9, usual.reset)?,
+        gate2: time(table, 10, usual.gate2)?,
+        between: time(table, 11, usual.between)?,
+    })
+}
+
+/// All times.
+fn times(table: &Table) -> Result<Times, TextFault>
+    ensures passed { OnOk result (NoneApplies (all_time_checks (table_view table.now))) }
+    ensures times { IfOk result (λ t. described_times (given_or no_members (times_in (table_view table.now))) ≡ t) }
+    ensures refused { IfErr result (IsFirstOf (all_time_checks (table_view table.now))) }
+{
+    let spot = Spot {
+        part: Part::Time,
+        row: 0,
+    };
+    let Some(value) = field(table, "time") else {
+        return Ok(Times::usual());
+    };
+    match value.as_table() {
+        Some(given) => given_times(given),
+        None => Err(TextFault::WrongValue { spot }),
+    }
+}
+
+/// The parts that the table of a document describes.
+pub(crate) fn parts(alloc: Global, table: &Table) -> Result<Parts, TextFault>
+    ensures passed { OnOk result (NoneApplies (document_checks (table_view table.now))) }
+    ensures described { IfOk result (λ p. Describes (table_view table.now) (data_of p)) }
+    ensures refused { IfErr result (λ e. e ≢ fault.NoMemory → IsFirstOf (document_checks (table_view table.now)) e) }
+{
+    known_fields(
+        table,
+        &["junctions", "trap", "segment", "time"],
+        Spot {
+            part: Part::Top,
+            row: 0,
+        },
+    )?;
+    let junctions = junctions(table)?;
+    let capacities = traps(alloc, table)?;
+    let segments = segments(alloc, table)?;
+    let times = times(table)?;
+    Ok(Parts {
+        capacities,
+        junctions,
+        segments,
+        times,
+    })
 }

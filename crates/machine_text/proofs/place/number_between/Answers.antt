@@ -1,6 +1,6 @@
-use Rattle.std.proofs.Common.{◌≡◌, ◌++◌, ◌∙◌, Some, None, decimal, sym, rules}
+use Rattle.std.proofs.Common.{◌++◌, ◌∙◌, Some, None, decimal, sym}
 use Rattle.std.proofs.lemmas.Bool.Decides.{Decides-eqb}
-use Rattle.std.proofs.lemmas.List.{append_cancel_left, append_cancel_right}
+use Rattle.std.proofs.lemmas.List.{append_cancel_left}
 use Rattle.std.proofs.lemmas.Slice.Eq.{strip_prefix_is, strip_suffix_is}
 use Rattle.machine_text.proofs.PlaceTexts.{between}
 use Rattle.machine_text.proofs.place.number_between.Goals as goal

@@ -1,4 +1,4 @@
-use Rattle.std.proofs.Common.{◌≡◌, ◌∙◌, ◌++◌, codes, decimal, ap, sym, arith}
+use Rattle.std.proofs.Common.{◌∙◌, ◌++◌, codes, decimal, ap, arith}
 use Rattle.std.proofs.lemmas.List.{append-nil}
 use Rattle.std.proofs.lemmas.Option.{none-some}
 use Rattle.qccd_base.specs.declared.names.End.TheVariants.{Left, Right}
