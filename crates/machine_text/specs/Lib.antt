@@ -1,4 +1,5 @@
 pub mod Checks
+pub mod FaultText
 pub mod Field
 pub mod Machine
 pub mod Place

@@ -2,6 +2,7 @@
 #![tactic(auto)]
 
 mod fault;
+mod fault_text;
 mod field;
 mod parts;
 mod place;
