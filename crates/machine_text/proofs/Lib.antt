@@ -2,3 +2,4 @@ pub mod Fields
 pub mod PlaceTexts
 pub mod Order
 pub mod Refusals
+pub mod Computed

@@ -8,5 +8,7 @@ mod parts;
 mod place;
 mod reader;
 
+pub mod worked;
+
 pub use fault::{Part, Spot, TextFault};
 pub use reader::read_machine;
