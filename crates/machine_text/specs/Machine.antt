@@ -46,22 +46,22 @@ pub record Describes (fields : Members) (m : MachineData) : Type 0 where
   pub segments : map ends_in (given_or [] (segments_in fields)) ≡ map given_ends m.segments
   pub times : described_times (given_or no_members (times_in fields)) ≡ m.times
 
--- the text is that of a machine: nothing is wrong with its table, and the parts that it describes are
--- those of this machine
-pub record IsMachineOf (text : List ℕ) (m : MachineData) : Type 0 where
+-- the text describes these parts: it is TOML, and nothing is wrong with its table
+pub record IsDescription (text : List ℕ) (parts : MachineData) : Type 0 where
   pub fields : Members
   pub is_table : IsTableOf text fields
   pub none_wrong : NoneApplies (document_checks fields)
-  pub describes : Describes fields m
+  pub describes : Describes fields parts
+
+-- the text is that of a machine: the parts that it describes make one
+pub record IsMachineOf (text : List ℕ) (m : MachineData) : Type 0 where
+  pub description : IsDescription text m
   pub valid : IsValid m
 
--- the text is refused for parts that make no machine: nothing is wrong with its table
+-- the text is refused for the parts that it describes, which make no machine
 pub record IsRefusedParts (text : List ℕ) (fault : MachineFault) : Type 0 where
-  pub fields : Members
-  pub is_table : IsTableOf text fields
-  pub none_wrong : NoneApplies (document_checks fields)
   pub parts : MachineData
-  pub describes : Describes fields parts
+  pub description : IsDescription text parts
   pub first : IsFirst parts fault
 
 -- the text is refused for a field: this is the first check of its table that applies
