@@ -3,3 +3,4 @@ pub mod PlaceTexts
 pub mod Order
 pub mod Refusals
 pub mod Computed
+pub mod Answered

@@ -16,7 +16,11 @@ impl TextFault {
     {
         match *self {
             TextFault::NotToml => joined("not TOML", "", ""),
-            TextFault::MissingField { spot } => joined("", field_name(spot).as_str(), " is missing"),
+            TextFault::MissingField { spot } => joined(
+                "",
+                field_name(spot).as_str(),
+                " is missing",
+            ),
             TextFault::WrongValue { spot } => {
                 joined("", field_name(spot).as_str(), " has a wrong value")
             }

@@ -4,10 +4,10 @@
 mod fault;
 mod fault_text;
 mod field;
+pub mod laws;
 mod parts;
 mod place;
 mod reader;
-
 pub mod worked;
 
 pub use fault::{Part, Spot, TextFault};
