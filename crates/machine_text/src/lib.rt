@@ -8,6 +8,8 @@ pub mod laws;
 mod parts;
 mod place;
 mod reader;
+#[cfg(test)]
+mod reader_tests;
 pub mod worked;
 
 pub use fault::{Part, Spot, TextFault};
