@@ -3,8 +3,9 @@ use Rattle.std.proofs.Common.{◌≡◌, ℕ, suc, ◌+◌, true, false, List, [
 use Rattle.std.specs.List.{flat_map, range_with_len}
 use Rattle.toml.specs.Data.{Data, Members, no_members}
 use Rattle.qccd_base.specs.declared.times.Times.{Times}
+use Rattle.machine_text.specs.declared.fault.Spot.{Spot}
 use Rattle.machine_text.specs.declared.fault.TextFault.{TextFault}
-use Rattle.machine_text.specs.Checks.{Check, first_of, NoneApplies, IsFirstOf, optional_checks, spot, time_check, time_table_checks}
+use Rattle.machine_text.specs.Checks.{Check, first_of, NoneApplies, IsFirstOf, known_checks, optional_checks, spot, time_check, time_table_checks}
 use Rattle.machine_text.specs.declared.fault.Part.TheVariants.{Time}
 use Rattle.machine_text.specs.Field.{Found, given, given_or, as_found, read_as}
 
@@ -24,6 +25,9 @@ first_of-at ((other, false) ∷ front) back fault first = first_of-at front back
 pub exit : {T : Type 0} (r : Result T TextFault) (e : TextFault) (P : TextFault → Type 0) → IsErrAnd r (λ y. y ≡ e) → P e → IfErr r P
 exit (Ok x) e P is holds = tt
 exit (Err y) e P is holds = subst P (sym is) holds
+
+pub known_at : (at this : Spot) (names : List (List ℕ)) (fields : Members) → at ≡ this → NoneApplies (known_checks at names fields) → NoneApplies (known_checks this names fields)
+known_at at this names fields is none = subst (λ (s : Spot). NoneApplies (known_checks s names fields)) is none
 
 -- ---- times
 

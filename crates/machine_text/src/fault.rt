@@ -36,6 +36,18 @@ pub struct Spot {
     pub row: u64,
 }
 
+impl Part {
+    ghost use Rattle.std.specs.Prelude.{◌≡◌};
+    ghost use Rattle.machine_text.specs.Checks.{spot};
+
+    /// This part of the trap or segment with this number, or 0 where there is none.
+    pub(crate) fn at(self, row: u64) -> Spot
+        ensures { result ≡ spot self row }
+    {
+        Spot { part: self, row }
+    }
+}
+
 /// Why a text is that of no machine. The first cause is told: whether it is TOML at all, then the
 /// fields in the order in which `Part` has them, with those of one trap or segment before those of
 /// the next and an unknown field of a table before its other fields, and at last the parts.

@@ -30,18 +30,8 @@ fn trap(table: &Table, row: u64) -> Result<u64, TextFault>
     ensures capacity { IfOk result (λ n. capacity_in (table_view table.now) ≡ given n) }
     ensures refused { IfErr result (IsFirstOf (trap_checks row (table_view table.now))) }
 {
-    known_fields(
-        table,
-        &["capacity"],
-        Spot {
-            part: Part::Trap,
-            row,
-        },
-    )?;
-    let spot = Spot {
-        part: Part::Capacity,
-        row,
-    };
+    known_fields(table, &["capacity"], Part::Trap.at(row))?;
+    let spot = Part::Capacity.at(row);
     let value = required(table, "capacity", spot)?;
     whole_number(value).ok_or(TextFault::WrongValue { spot })
 }
@@ -61,30 +51,9 @@ fn segment(table: &Table, row: u64) -> Result<(Place, Place), TextFault>
     ensures ends { IfOk result (λ p. ends_in (table_view table.now) ≡ given_ends p) }
     ensures refused { IfErr result (IsFirstOf (segment_checks row (table_view table.now))) }
 {
-    known_fields(
-        table,
-        &["a", "b"],
-        Spot {
-            part: Part::Segment,
-            row,
-        },
-    )?;
-    let a = end(
-        table,
-        "a",
-        Spot {
-            part: Part::EndA,
-            row,
-        },
-    )?;
-    let b = end(
-        table,
-        "b",
-        Spot {
-            part: Part::EndB,
-            row,
-        },
-    )?;
+    known_fields(table, &["a", "b"], Part::Segment.at(row))?;
+    let a = end(table, "a", Part::EndA.at(row))?;
+    let b = end(table, "b", Part::EndB.at(row))?;
     Ok((a, b))
 }
 
@@ -94,10 +63,7 @@ fn time(table: &Table, place: u8, usual: u32) -> Result<u32, TextFault>
     ensures value { IfOk result (λ t. given_or usual (time_in place (table_view table.now)) ≡ t) }
     ensures refused { IfErr result (IsFirstOf (time_check (table_view table.now) place)) }
 {
-    let spot = Spot {
-        part: Part::TimeField(place),
-        row: 0,
-    };
+    let spot = Part::TimeField(place).at(0);
     match field(table, time_name(place)) {
         Some(value) => time_number(value).ok_or(TextFault::WrongValue { spot }),
         None => Ok(usual),
@@ -110,10 +76,7 @@ fn junctions(table: &Table) -> Result<u64, TextFault>
     ensures count { IfOk result (λ n. given_or 0 (junctions_in (table_view table.now)) ≡ n) }
     ensures refused { IfErr result (IsFirstOf (optional_checks (spot part.Junctions 0) (junctions_in (table_view table.now)))) }
 {
-    let spot = Spot {
-        part: Part::Junctions,
-        row: 0,
-    };
+    let spot = Part::Junctions.at(0);
     match field(table, "junctions") {
         Some(value) => whole_number(value).ok_or(TextFault::WrongValue { spot }),
         None => Ok(0),
@@ -154,10 +117,7 @@ fn traps(alloc: Global, table: &Table) -> Result<Vec<u64>, TextFault>
     ensures capacities { IfOk result (λ v. map capacity_in (given_or [] (traps_in (table_view table.now))) ≡ map given v.items) }
     ensures refused { IfErr result (λ e. e ≢ fault.NoMemory → IsFirstOf (all_trap_checks (table_view table.now)) e) }
 {
-    let spot = Spot {
-        part: Part::Trap,
-        row: 0,
-    };
+    let spot = Part::Trap.at(0);
     let value = required(table, "trap", spot)?;
     let rows = tables(alloc, value)?.ok_or(TextFault::WrongValue { spot })?;
     capacities(alloc, rows.as_slice())
@@ -169,10 +129,7 @@ fn segments(alloc: Global, table: &Table) -> Result<Vec<(Place, Place)>, TextFau
     ensures ends { IfOk result (λ v. map ends_in (given_or [] (segments_in (table_view table.now))) ≡ map given_ends v.items) }
     ensures refused { IfErr result (λ e. e ≢ fault.NoMemory → IsFirstOf (all_segment_checks (table_view table.now)) e) }
 {
-    let spot = Spot {
-        part: Part::Segment,
-        row: 0,
-    };
+    let spot = Part::Segment.at(0);
     let Some(value) = field(table, "segment") else {
         return Ok(Vec::new(alloc));
     };
@@ -186,14 +143,7 @@ fn given_times(table: &Table) -> Result<Times, TextFault>
     ensures times { IfOk result (λ t. described_times (table_view table.now) ≡ t) }
     ensures refused { IfErr result (IsFirstOf (time_table_checks (table_view table.now))) }
 {
-    known_fields(
-        table,
-        &TIME_NAMES,
-        Spot {
-            part: Part::Time,
-            row: 0,
-        },
-    )?;
+    known_fields(table, &TIME_NAMES, Part::Time.at(0))?;
     let usual = Times::usual();
     Ok(Times {
         split: time(table, 0, usual.split)?,
@@ -217,10 +167,7 @@ fn times(table: &Table) -> Result<Times, TextFault>
     ensures times { IfOk result (λ t. described_times (given_or no_members (times_in (table_view table.now))) ≡ t) }
     ensures refused { IfErr result (IsFirstOf (all_time_checks (table_view table.now))) }
 {
-    let spot = Spot {
-        part: Part::Time,
-        row: 0,
-    };
+    let spot = Part::Time.at(0);
     let Some(value) = field(table, "time") else {
         return Ok(Times::usual());
     };
@@ -239,10 +186,7 @@ pub(crate) fn parts(alloc: Global, table: &Table) -> Result<Parts, TextFault>
     known_fields(
         table,
         &["junctions", "trap", "segment", "time"],
-        Spot {
-            part: Part::Top,
-            row: 0,
-        },
+        Part::Top.at(0),
     )?;
     let junctions = junctions(table)?;
     let capacities = traps(alloc, table)?;
