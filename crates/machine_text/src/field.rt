@@ -62,30 +62,21 @@ pub(crate) fn required<'a>(table: &'a Table, name: &str, spot: Spot) -> Result<&
 pub(crate) fn whole_number(value: &Value) -> Option<u64>
     ensures { result ≡ whole_number (view value.now) }
 {
-    match value.as_integer() {
-        Some(number) if number >= 0 => Some(number as u64),
-        _ => None,
-    }
+    u64::try_from(value.as_integer()?).ok()
 }
 
 /// The number of a value that is a whole number from 0 to 4,294,967,295.
 pub(crate) fn time_number(value: &Value) -> Option<u32>
     ensures { result ≡ time_number (view value.now) }
 {
-    match whole_number(value) {
-        Some(number) if number <= 4294967295 => Some(number as u32),
-        _ => None,
-    }
+    u32::try_from(whole_number(value)?).ok()
 }
 
 /// The place of a value that is the text of one.
 pub(crate) fn place(value: &Value) -> Option<Place>
     ensures { result ≡ place_in (view value.now) }
 {
-    match value.as_str() {
-        Some(text) => place_of(text.as_bytes()),
-        None => None,
-    }
+    place_of(value.as_str()?.as_bytes())
 }
 
 /// The tables of a value that is an array of tables.
