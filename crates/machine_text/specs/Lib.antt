@@ -1,4 +1,5 @@
 pub mod Checks
+pub mod Fast
 pub mod FaultText
 pub mod Field
 pub mod Machine
