@@ -6,7 +6,7 @@ ghost use Rattle.machine_text.specs.declared.fault.TextFault.TheVariants as faul
 ghost use Rattle.machine_text.specs.Checks.{spot};
 ghost use Rattle.machine_text.specs.Machine.{IsMachineOf, IsRefusalOf};
 ghost use Rattle.machine_text.specs.Fast.{fast};
-ghost use Rattle.qccd_machine.specs.declared.fault.MachineFault.TheVariants.{NoTrap};
+ghost use Rattle.qccd_machine.specs.declared.fault.MachineFault.TheVariants.{BadEnd, NoTrap};
 
 /// What is wrong with a document as a whole.
 pub fn documents()
@@ -102,6 +102,12 @@ pub fn no_toml()
 /// That there is no trap is told of the parts, behind all that may be wrong with the table.
 pub fn no_trap()
     ensures { IsRefusalOf (codes "trap = []\n") (fault.Machine NoTrap) }
+{}
+
+/// A segment that leads from the one trap to a second one that is not there.
+pub fn second_trap_missing()
+    ensures { IsRefusalOf (codes "[[trap]]\ncapacity = 3\n[[segment]]\na = \"T0.right\"\nb = \"T1.left\"\n")
+        (fault.Machine (BadEnd (record { 0 = 0 }))) }
 {}
 
 /// A machine whose gates take no time.
