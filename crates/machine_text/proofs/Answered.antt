@@ -9,7 +9,7 @@ use Rattle.toml.specs.Parse.{parse_document}
 use Rattle.qccd_base.specs.declared.times.Times.{Times}
 use Rattle.qccd_machine.specs.declared.fault.MachineFault.{MachineFault}
 use Rattle.qccd_machine.specs.declared.place.Place.{Place}
-use Rattle.qccd_machine.specs.Machine.{MachineData}
+use Rattle.qccd_machine.specs.Machine.{MachineData, machine_data}
 use Rattle.qccd_machine.specs.Fault.{IsFirst}
 use Rattle.qccd_machine.proofs.Sound.{none_applies, one_first}
 use Rattle.machine_text.specs.declared.fault.TextFault.{TextFault}
@@ -40,9 +40,6 @@ map-injective f one (x ∷ xs) (y ∷ ys) same =
 
 given_ends-injective : (x y : Place × Place) → given_ends x ≡ given_ends y → x ≡ y
 given_ends-injective x y same = ap (λ (e : Found Place × Found Place). (given_or x.0 e.0, given_or x.1 e.1)) same
-
-abbrev machine_data : List ℕ → ℕ → List (Place × Place) → Times → MachineData
-machine_data capacities junctions segments times = record { capacities = capacities; junctions = junctions; segments = segments; times = times }
 
 one_description : (fields : Members) (m n : MachineData) → Describes fields m → Describes fields n → m ≡ n
 one_description fields m n first second =

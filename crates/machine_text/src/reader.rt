@@ -27,18 +27,15 @@ use toml::Table;
 /// segment its unknown field, `a` and `b`; `time`, its unknown field, and its fields in the order of
 /// `Times`; and last what `Machine::build` refuses.
 ///
-/// Memory is taken in proportion to the text's length, whatever numbers it names. That it ran out says
-/// nothing of the text.
+/// Memory is taken for the parts that the text lists, and not by the numbers that it names. That it ran
+/// out says nothing of the text.
 pub fn read_machine(alloc: Global, text: &[u8]) -> Result<Machine, TextFault>
     ensures machine { IfOk result (IsMachineOf text.now) }
     ensures refused { IfErr result (λ e. e ≢ fault.NoMemory → IsRefusalOf text.now e) }
 {
     let table = table_of(alloc, text)?;
     let parts = parts(alloc, &table)?;
-    let machine = Machine::build(alloc, parts).map_err(fault_of)?;
-    // A machine is valid, and its readers say so.
-    let _traps = machine.traps();
-    Ok(machine)
+    Machine::build(alloc, parts).map_err(fault_of)
 }
 
 /// The table of a text that is TOML.
