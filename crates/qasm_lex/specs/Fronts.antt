@@ -30,7 +30,7 @@ pub record GapAtFront (text : List ℕ) (len : ℕ) : Type 0 where
 abbrev pub begins_number : ℕ → Bool
 begins_number c = is_ascii_digit c || c == 46
 
--- any byte that begins no word, no number and no string
+-- any byte with which no word, no number and no string can begin
 abbrev pub begins_no_long : ℕ → Bool
 begins_no_long c = not (is_ascii_alphabetic c || (begins_number c || c == 34))
 

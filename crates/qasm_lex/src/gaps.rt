@@ -6,7 +6,7 @@ ghost use Rattle.qasm_lex.specs.Fronts.{BeginsGap, GapAtFront};
 
 use crate::runs::{begins_pair, line_len};
 
-// How many bytes of white space, or of a comment, the text begins with.
+// How many bytes the first piece of a gap takes: one byte of white space, or a comment.
 fn piece_len(text: &[u8]) -> Option<usize>
     ensures found { IfSome result (BeginsGap text.now) }
     ensures none { IfNone result (begins_gap text.now ≡ false) }

@@ -7,7 +7,7 @@ ghost use Rattle.qasm_lex.specs.declared.tokens.Token.{Token};
 ghost use Rattle.qasm_lex.specs.Reading.{AreTokens, IsFirstFault};
 ghost use Rattle.qasm_lex.specs.Tokens.{BeginsNoToken, is_text_byte};
 
-/// Each text has a list of tokens or a first fault: one of both, one list at most, and one fault at
+/// Each text has a list of tokens or a first fault: one of the two, one list at most, and one fault at
 /// most.
 pub fn one_answer()
     ensures some { (text : List ℕ) → ((ts : List Token) × AreTokens text ts) ⊎ ((fault : LexFault) × IsFirstFault text fault) }

@@ -43,8 +43,10 @@ fn next_token(text: &[u8], from: usize) -> Result<Option<Token>, LexFault>
     }
 }
 
-/// The tokens of the text, in order. White space and comments, from `//` to the end of the line,
-/// stand between them and are no tokens. The text has at most 16,777,216 bytes.
+/// The tokens of the text, in order. The text has at most 16,777,216 bytes.
+///
+/// White space (the bytes 9, 10, 12, 13 and 32) and comments stand between tokens. A comment runs from
+/// `//` to the line feed that ends its line, or to the end of the text, and may hold any byte.
 ///
 /// The longest token that begins at a byte is taken. Where none does, the answer is `BadByte` at
 /// that byte, or `OpenString` where a string begins there that is not closed on its line; the first

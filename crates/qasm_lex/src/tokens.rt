@@ -7,7 +7,8 @@ pub enum TokenKind {
     Word,
     /// Digits.
     Int,
-    /// Digits with a point among them, and perhaps an exponent; or digits and an exponent.
+    /// Digits with a point before, among or behind them, and perhaps an exponent; or digits and an
+    /// exponent.
     Real,
     /// Bytes between two quotes, on one line.
     Text,
