@@ -1,12 +1,11 @@
 //! What is told of a fault.
 
-ghost use Rattle.std.specs.Prelude.{◌≡◌, ◌+◌, ◌≤◌, [], ◌∷◌, length, decimal};
-ghost use Rattle.std.specs.List.{concat};
+ghost use Rattle.std.specs.Prelude.{◌≡◌};
 ghost use Rattle.machine_text.specs.FaultText.{field_name, table_name, text_fault_text};
 
 use crate::fault::{Part, Spot, TextFault};
 use arrayvec::ArrayString;
-use qccd_base::number_text;
+use qccd_base::{joined, numbered};
 use qccd_machine::time_name;
 
 impl TextFault {
@@ -59,24 +58,4 @@ fn table_name(spot: Spot) -> ArrayString<40>
         Part::Segment => numbered("segment ", spot.row, ""),
         _ => field_name(spot),
     }
-}
-
-/// A number between two texts. A number has twenty digits at most.
-fn numbered(before: &str, number: u64, after: &str) -> ArrayString<40>
-    requires { length before.now + length after.now ≤ 20 }
-    ensures { result.bytes ≡ concat (before.now ∷ decimal number ∷ after.now ∷ []) }
-{
-    joined(before, number_text(number).as_str(), after)
-}
-
-/// Three texts in a row.
-fn joined<const N: usize>(before: &str, middle: &str, after: &str) -> ArrayString<N>
-    requires { length before.now + length middle.now + length after.now ≤ N }
-    ensures { result.bytes ≡ concat (before.now ∷ middle.now ∷ after.now ∷ []) }
-{
-    let mut line = ArrayString::new();
-    line.push_str(before);
-    line.push_str(middle);
-    line.push_str(after);
-    line
 }

@@ -4,9 +4,11 @@
 mod lists;
 mod names;
 mod numbers;
+mod short_texts;
 mod times;
 
 pub use lists::{BitList, IonList, PosList, QubitList, TrapList};
 pub use names::{Bit, End, Ion, JuncId, Mode, NoMemory, Qubit, Res, SegEnd, SegId, TrapId};
 pub use numbers::{number_text, read_number};
+pub use short_texts::{joined, numbered};
 pub use times::Times;

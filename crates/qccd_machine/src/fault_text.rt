@@ -1,14 +1,13 @@
 //! What is told of a fault.
 
-ghost use Rattle.std.specs.Prelude.{◌≡◌, ◌+◌, ◌≤◌, [], ◌∷◌, length};
-ghost use Rattle.std.specs.List.{concat};
+ghost use Rattle.std.specs.Prelude.{◌≡◌, ◌≤◌, length};
 ghost use Rattle.qccd_machine.specs.declared.fault.MachineFault.TheVariants.{NotConnected};
-ghost use Rattle.qccd_machine.specs.FaultText.{fault_text, numbered};
+ghost use Rattle.qccd_machine.specs.FaultText.{fault_text};
 
 use crate::fault::{MachineFault, PartKind};
 use crate::names::time_name;
 use arrayvec::ArrayString;
-use qccd_base::{Res, number_text};
+use qccd_base::{Res, joined, numbered};
 
 impl MachineFault {
     /// What is told of the fault, in one line without its end. It takes no memory.
@@ -41,7 +40,7 @@ impl MachineFault {
             ),
             MachineFault::NotConnected { place } => out_of_reach(place),
             MachineFault::TableRange { field } => {
-                between("time ", time_name(field), " is above 1000000")
+                joined("time ", time_name(field), " is above 1000000")
             }
             MachineFault::NoMemory => whole("no memory"),
         }
@@ -65,29 +64,7 @@ fn whole(text: &str) -> ArrayString<64>
     requires { length text.now ≤ 64 }
     ensures { result.bytes ≡ text.now }
 {
-    let mut line = ArrayString::new();
-    line.push_str(text);
-    line
-}
-
-/// A number between two texts. A number has twenty digits at most.
-fn numbered(before: &str, number: u64, after: &str) -> ArrayString<64>
-    requires { length before.now + length after.now ≤ 44 }
-    ensures { result.bytes ≡ numbered before.now number after.now }
-{
-    between(before, number_text(number).as_str(), after)
-}
-
-/// A text between two others.
-fn between(before: &str, middle: &str, after: &str) -> ArrayString<64>
-    requires { length before.now + length middle.now + length after.now ≤ 64 }
-    ensures { result.bytes ≡ concat (before.now ∷ middle.now ∷ after.now ∷ []) }
-{
-    let mut line = ArrayString::new();
-    line.push_str(before);
-    line.push_str(middle);
-    line.push_str(after);
-    line
+    joined(text, "", "")
 }
 
 #[cfg(test)]

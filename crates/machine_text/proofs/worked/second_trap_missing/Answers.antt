@@ -41,6 +41,6 @@ unfolding toml_on_literals places digits
 returns c = record {
   parts = stray;
   description = describing (codes "[[trap]]\ncapacity = 3\n[[segment]]\na = \"T0.right\"\nb = \"T1.left\"\n") stray refl refl
-  (refl, record { capacities = refl; junctions = refl; segments = refl; times = refl });
+      (refl, record { capacities = refl; junctions = refl; segments = refl; times = refl });
   first = record { applies = (link 0, refl, inr (λ there. omega arith)); none_earlier = none_earlier };
 }

@@ -16,8 +16,8 @@ short_at (name ∷ names) (suc i) all = short_at names i all.1
 all_short : AllByRecursion IsShort time_names
 all_short = search rules
 
-pub between-requires : goal.between-requires
-between-requires c = omega (arith, short_at time_names c.in-TableRange.field all_short, ap length c.time_name.ensures)
+pub joined-requires : goal.joined-requires
+joined-requires c = omega (arith, short_at time_names c.in-TableRange.field all_short, ap length c.time_name.ensures)
 
 pub returns-in-Capacity : goal.returns-in-Capacity
 returns-in-Capacity c =
@@ -33,4 +33,4 @@ returns-in-SelfJoined c =
 
 pub returns-in-TableRange : goal.returns-in-TableRange
 returns-in-TableRange c =
-    rw c.in-TableRange.is (c.between.ensures ∙ ap (λ (name : List ℕ). concat (codes "time " ∷ name ∷ codes " is above 1000000" ∷ [])) c.time_name.ensures)
+    rw c.in-TableRange.is (c.joined.ensures ∙ ap (λ (name : List ℕ). concat (codes "time " ∷ name ∷ codes " is above 1000000" ∷ [])) c.time_name.ensures)
