@@ -1,5 +1,5 @@
 -- What may be wrong with the table of a machine's file, in the order in which it is looked for.
-use Rattle.std.specs.Prelude.{◌≡◌, ℕ, ◌+◌, Bool, if◌then◌else◌, List, [], ◌∷◌, ◌++◌, Option, None, Some, codes, flat_map}
+use Rattle.std.specs.Prelude.{◌≡◌, ◌≢◌, ℕ, ◌+◌, Bool, if◌then◌else◌, List, [], ◌∷◌, ◌++◌, Option, None, Some, codes, flat_map}
 use Rattle.std.specs.List.{range_with_len}
 use Rattle.toml.specs.Data.{Members, no_members, as_table}
 use Rattle.qccd_machine.specs.TimeName.{time_names, time_name_of}
@@ -8,7 +8,7 @@ use Rattle.machine_text.specs.declared.fault.Part.{Part}
 use Rattle.machine_text.specs.declared.fault.Part.TheVariants.{Top, Junctions, Trap, Capacity, Segment, EndA, EndB, Time, TimeField}
 use Rattle.machine_text.specs.declared.fault.Spot.{Spot}
 use Rattle.machine_text.specs.declared.fault.TextFault.{TextFault}
-use Rattle.machine_text.specs.declared.fault.TextFault.TheVariants.{MissingField, WrongValue, UnknownField}
+use Rattle.machine_text.specs.declared.fault.TextFault.TheVariants.{MissingField, WrongValue, UnknownField, NoMemory}
 use Rattle.machine_text.specs.Field.{Found, found, is_absent, is_wrong, given_or, has_unknown, whole_number, time_number, place_in, tables_in}
 
 -- a check: the refusal, and whether it applies
@@ -27,6 +27,10 @@ NoneApplies checks = first_of checks ≡ None
 -- this is the first refusal that applies
 abbrev pub IsFirstOf : List Check → TextFault → Type 0
 IsFirstOf checks fault = first_of checks ≡ Some fault
+
+-- the first refusal that applies, unless memory ran out, of which nothing is said
+abbrev pub IsFirstOrNoMemory : List Check → TextFault → Type 0
+IsFirstOrNoMemory checks fault = fault ≢ NoMemory → IsFirstOf checks fault
 
 abbrev pub spot : Part → ℕ → Spot
 spot part row = record { part = part; row = row }
@@ -58,14 +62,19 @@ trap_names = codes "capacity" ∷ []
 
 abbrev pub trap_checks : ℕ → Members → List Check
 trap_checks row trap =
-    known_checks (spot Trap row) trap_names trap ++ required_checks (spot Capacity row) (capacity_in trap)
+    known_checks (spot Trap row) trap_names trap
+    ++ required_checks (spot Capacity row) (capacity_in trap)
 
 abbrev pub traps_in : Members → Found (List Members)
 traps_in fields = found tables_in (codes "trap") fields
 
+-- their tables
+abbrev pub trap_rows : Members → List Members
+trap_rows fields = given_or [] (traps_in fields)
+
 abbrev pub all_trap_checks : Members → List Check
 all_trap_checks fields =
-    required_checks (spot Trap 0) (traps_in fields) ++ row_checks trap_checks 0 (given_or [] (traps_in fields))
+    required_checks (spot Trap 0) (traps_in fields) ++ row_checks trap_checks 0 (trap_rows fields)
 
 -- ---- segments
 
@@ -85,14 +94,20 @@ segment_names = codes "a" ∷ codes "b" ∷ []
 abbrev pub segment_checks : ℕ → Members → List Check
 segment_checks row segment =
     known_checks (spot Segment row) segment_names segment
-    ++ (required_checks (spot EndA row) (end_a_in segment) ++ required_checks (spot EndB row) (end_b_in segment))
+    ++ (required_checks (spot EndA row) (end_a_in segment)
+    ++ required_checks (spot EndB row) (end_b_in segment))
 
 abbrev pub segments_in : Members → Found (List Members)
 segments_in fields = found tables_in (codes "segment") fields
 
+-- their tables, none where nothing is said of segments
+abbrev pub segment_rows : Members → List Members
+segment_rows fields = given_or [] (segments_in fields)
+
 abbrev pub all_segment_checks : Members → List Check
 all_segment_checks fields =
-    optional_checks (spot Segment 0) (segments_in fields) ++ row_checks segment_checks 0 (given_or [] (segments_in fields))
+    optional_checks (spot Segment 0) (segments_in fields)
+    ++ row_checks segment_checks 0 (segment_rows fields)
 
 -- ---- times
 
@@ -110,14 +125,21 @@ time_table_checks times =
 abbrev pub times_in : Members → Found Members
 times_in fields = found as_table (codes "time") fields
 
+-- their table, with no field where nothing is said of times
+abbrev pub time_table : Members → Members
+time_table fields = given_or no_members (times_in fields)
+
 abbrev pub all_time_checks : Members → List Check
 all_time_checks fields =
-    optional_checks (spot Time 0) (times_in fields) ++ time_table_checks (given_or no_members (times_in fields))
+    optional_checks (spot Time 0) (times_in fields) ++ time_table_checks (time_table fields)
 
 -- ---- the document
 
 abbrev pub junctions_in : Members → Found ℕ
 junctions_in fields = found whole_number (codes "junctions") fields
+
+abbrev pub junction_checks : Members → List Check
+junction_checks fields = optional_checks (spot Junctions 0) (junctions_in fields)
 
 abbrev pub document_names : List (List ℕ)
 document_names = codes "junctions" ∷ codes "trap" ∷ codes "segment" ∷ codes "time" ∷ []
@@ -125,5 +147,5 @@ document_names = codes "junctions" ∷ codes "trap" ∷ codes "segment" ∷ code
 abbrev pub document_checks : Members → List Check
 document_checks fields =
     known_checks (spot Top 0) document_names fields
-    ++ (optional_checks (spot Junctions 0) (junctions_in fields)
+    ++ (junction_checks fields
     ++ (all_trap_checks fields ++ (all_segment_checks fields ++ all_time_checks fields)))

@@ -35,7 +35,9 @@ table_name (TimeField field) row = field_name (TimeField field) row
 abbrev pub text_fault_text : TextFault → List ℕ
 text_fault_text NotToml = codes "not TOML"
 text_fault_text (MissingField at) = concat (field_name at.part at.row ∷ codes " is missing" ∷ [])
-text_fault_text (WrongValue at) = concat (field_name at.part at.row ∷ codes " has a wrong value" ∷ [])
-text_fault_text (UnknownField at) = concat (codes "unknown field in " ∷ table_name at.part at.row ∷ [])
+text_fault_text (WrongValue at) =
+    concat (field_name at.part at.row ∷ codes " has a wrong value" ∷ [])
+text_fault_text (UnknownField at) =
+    concat (codes "unknown field in " ∷ table_name at.part at.row ∷ [])
 text_fault_text (Machine fault) = fault_text fault
 text_fault_text NoMemory = codes "no memory"

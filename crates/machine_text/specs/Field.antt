@@ -43,7 +43,8 @@ found form name fields = read_as form (get_member name fields)
 -- some field has none of these names
 abbrev pub has_unknown : List (List ℕ) → Members → Bool
 has_unknown names no_members = false
-has_unknown names (member name value fields) = not (list_any (bytes_eq name) names) || has_unknown names fields
+has_unknown names (member name value fields) =
+    not (list_any (bytes_eq name) names) || has_unknown names fields
 
 -- ---- forms of values
 
@@ -54,7 +55,8 @@ whole_number _ = None
 
 -- a time in microseconds: a whole number from 0 to 4,294,967,295
 abbrev pub time_number : Data → Option ℕ
-time_number value = option_and_then (λ n. if nat_le n 4294967295 then Some n else None) (whole_number value)
+time_number value =
+    option_and_then (λ n. if nat_le n 4294967295 then Some n else None) (whole_number value)
 
 -- the text of a place
 abbrev pub place_in : Data → Option Place

@@ -1,6 +1,6 @@
 -- Which machine a text is that of, and for what a text is refused.
-use Rattle.std.specs.Prelude.{◌≡◌, ℕ, List, [], map, Some, IsUtf8}
-use Rattle.toml.specs.Data.{Members, no_members}
+use Rattle.std.specs.Prelude.{◌≡◌, ℕ, List, map, Some, IsUtf8}
+use Rattle.toml.specs.Data.{Members}
 use Rattle.toml.specs.Parse.{parse_document}
 use Rattle.qccd_base.specs.declared.times.Times.{Times}
 use Rattle.qccd_base.specs.Times.{usual}
@@ -12,7 +12,7 @@ use Rattle.qccd_machine.specs.Fault.{IsFirst}
 use Rattle.machine_text.specs.declared.fault.TextFault.{TextFault}
 use Rattle.machine_text.specs.declared.fault.TextFault.TheVariants.{NotToml, MissingField, WrongValue, UnknownField, Machine, NoMemory}
 use Rattle.machine_text.specs.Field.{Found, given, given_or}
-use Rattle.machine_text.specs.Checks.{NoneApplies, IsFirstOf, capacity_in, traps_in, ends_in, segments_in, time_in, times_in, junctions_in, document_checks}
+use Rattle.machine_text.specs.Checks.{NoneApplies, IsFirstOf, capacity_in, trap_rows, ends_in, segment_rows, time_in, time_table, junctions_in, document_checks}
 
 -- the text is TOML, and this is its table
 abbrev pub IsTableOf : List ℕ → Members → Type 0
@@ -38,13 +38,13 @@ described_times times = record {
   between = given_or usual.between (time_in 11 times);
 }
 
--- the table describes these parts: each trap gives its capacity and each segment its two ends; there
--- is no junction, no segment and no other time than the usual ones where nothing is said of them
+-- the table describes these parts: each trap gives its capacity and each segment its two ends. Where
+-- nothing is said of them there is no junction and no segment, and the times are the usual ones.
 pub record Describes (fields : Members) (m : MachineData) : Type 0 where
-  pub capacities : map capacity_in (given_or [] (traps_in fields)) ≡ map given m.capacities
+  pub capacities : map capacity_in (trap_rows fields) ≡ map given m.capacities
   pub junctions : given_or 0 (junctions_in fields) ≡ m.junctions
-  pub segments : map ends_in (given_or [] (segments_in fields)) ≡ map given_ends m.segments
-  pub times : described_times (given_or no_members (times_in fields)) ≡ m.times
+  pub segments : map ends_in (segment_rows fields) ≡ map given_ends m.segments
+  pub times : described_times (time_table fields) ≡ m.times
 
 -- the text describes these parts: it is TOML, and nothing is wrong with its table
 pub record IsDescription (text : List ℕ) (parts : MachineData) : Type 0 where

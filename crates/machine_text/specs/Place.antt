@@ -14,7 +14,8 @@ place_text (Junction junction) = codes "J" ++ decimal junction.0
 
 -- the places of one number
 abbrev pub places_at : ℕ → List Place
-places_at n = TrapEnd (record { 0 = n }) Left ∷ TrapEnd (record { 0 = n }) Right ∷ Junction (record { 0 = n }) ∷ []
+places_at n =
+    TrapEnd (record { 0 = n }) Left ∷ TrapEnd (record { 0 = n }) Right ∷ Junction (record { 0 = n }) ∷ []
 
 -- the places that a text may name: those with numbers up to 255
 unfoldable pub places : List Place

@@ -32,8 +32,10 @@ fn is_among(name: &str, names: &[&str]) -> bool
 
 /// That each field of the table has one of these names.
 pub(crate) fn known_fields(table: &Table, names: &[&str], spot: Spot) -> Result<(), TextFault>
-    ensures ok { OnOk result (NoneApplies (known_checks spot (texts_of names.now) (table_view table.now))) }
-    ensures refused { IfErr result (IsFirstOf (known_checks spot (texts_of names.now) (table_view table.now))) }
+    ensures ok { OnOk result (NoneApplies
+        (known_checks spot (texts_of names.now) (table_view table.now))) }
+    ensures refused { IfErr result (IsFirstOf
+        (known_checks spot (texts_of names.now) (table_view table.now))) }
 {
     if has_unknown(table, names) {
         Err(TextFault::UnknownField { spot })
@@ -44,14 +46,16 @@ pub(crate) fn known_fields(table: &Table, names: &[&str], spot: Spot) -> Result<
 
 /// The value of the field, where the table has it.
 pub(crate) fn field<'a>(table: &'a Table, name: &str) -> Option<&'a Value>
-    ensures { option_map (λ value. view value.now) result ≡ get_member name.now (table_view table.now) }
+    ensures { option_map (λ value. view value.now) result
+        ≡ get_member name.now (table_view table.now) }
 {
     table.get(name)
 }
 
 /// The value of a field that has to be there.
 pub(crate) fn required<'a>(table: &'a Table, name: &str, spot: Spot) -> Result<&'a Value, TextFault>
-    ensures ok { IfOk result (λ value. get_member name.now (table_view table.now) ≡ Some (view value.now)) }
+    ensures ok { IfOk result (λ value.
+        get_member name.now (table_view table.now) ≡ Some (view value.now)) }
     ensures missing { IfErr result (λ e. (e ≡ fault.MissingField spot)
         × (get_member name.now (table_view table.now) ≡ None)) }
 {

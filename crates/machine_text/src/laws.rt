@@ -8,7 +8,8 @@ ghost use Rattle.machine_text.specs.Machine.{IsDescription, IsMachineOf, IsRefus
 
 /// A text is that of one machine at most.
 pub fn one_machine()
-    ensures { (text : List ℕ) (m n : MachineData) → IsMachineOf text m → IsMachineOf text n → m ≡ n }
+    ensures { (text : List ℕ) (m n : MachineData)
+        → IsMachineOf text m → IsMachineOf text n → m ≡ n }
 {}
 
 /// A text is refused in one way at most.
@@ -27,5 +28,6 @@ pub fn not_both()
 /// or make a machine is a law of theirs.
 pub fn every_text()
     ensures { (text : List ℕ) → IsRefusalOf text NotToml
-        ⊎ (((fault : TextFault) × IsRefusedField text fault) ⊎ ((parts : MachineData) × IsDescription text parts)) }
+        ⊎ (((fault : TextFault) × IsRefusedField text fault)
+        ⊎ ((parts : MachineData) × IsDescription text parts)) }
 {}

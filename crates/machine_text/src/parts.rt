@@ -1,11 +1,8 @@
 //! The parts of a machine that the table of its file describes.
 
-ghost use Rattle.std.specs.Prelude.{◌≡◌, ◌≢◌, [], map, IfOk, OnOk, IfErr};
-ghost use Rattle.toml.specs.Data.{no_members};
+ghost use Rattle.std.specs.Prelude.{◌≡◌, map, IfOk, OnOk, IfErr};
 ghost use Rattle.toml.specs.View.{table_view};
-ghost use Rattle.machine_text.specs.declared.fault.TextFault.TheVariants as fault;
-ghost use Rattle.machine_text.specs.Checks.{NoneApplies, IsFirstOf, row_checks, capacity_in, trap_checks, traps_in, all_trap_checks, ends_in, segment_checks, segments_in, all_segment_checks, time_in, time_check, time_table_checks, times_in, all_time_checks, junctions_in, optional_checks, required_checks, spot, document_checks};
-ghost use Rattle.machine_text.specs.declared.fault.Part.TheVariants as part;
+ghost use Rattle.machine_text.specs.Checks.{NoneApplies, IsFirstOf, IsFirstOrNoMemory, required_checks, row_checks, capacity_in, trap_checks, trap_rows, all_trap_checks, ends_in, segment_checks, segment_rows, all_segment_checks, time_in, time_check, time_table, time_table_checks, all_time_checks, junctions_in, junction_checks, document_checks};
 ghost use Rattle.machine_text.specs.Field.{found, given, given_or, place_in};
 ghost use Rattle.machine_text.specs.Machine.{given_ends, described_times, Describes};
 ghost use Rattle.qccd_machine.specs.Fault.{data_of};
@@ -39,7 +36,8 @@ fn trap(table: &Table, row: u64) -> Result<u64, TextFault>
 /// The place of an end of a segment, whose table this is.
 fn end(table: &Table, name: &str, spot: Spot) -> Result<Place, TextFault>
     ensures place { IfOk result (λ p. found place_in name.now (table_view table.now) ≡ given p) }
-    ensures refused { IfErr result (IsFirstOf (required_checks spot (found place_in name.now (table_view table.now)))) }
+    ensures refused { IfErr result (IsFirstOf
+        (required_checks spot (found place_in name.now (table_view table.now)))) }
 {
     let value = required(table, name, spot)?;
     place(value).ok_or(TextFault::WrongValue { spot })
@@ -72,9 +70,9 @@ fn time(table: &Table, place: u8, usual: u32) -> Result<u32, TextFault>
 
 /// How many junctions there are.
 fn junctions(table: &Table) -> Result<u64, TextFault>
-    ensures passed { OnOk result (NoneApplies (optional_checks (spot part.Junctions 0) (junctions_in (table_view table.now)))) }
+    ensures passed { OnOk result (NoneApplies (junction_checks (table_view table.now))) }
     ensures count { IfOk result (λ n. given_or 0 (junctions_in (table_view table.now)) ≡ n) }
-    ensures refused { IfErr result (IsFirstOf (optional_checks (spot part.Junctions 0) (junctions_in (table_view table.now)))) }
+    ensures refused { IfErr result (IsFirstOf (junction_checks (table_view table.now))) }
 {
     let spot = Part::Junctions.at(0);
     match field(table, "junctions") {
@@ -86,9 +84,9 @@ fn junctions(table: &Table) -> Result<u64, TextFault>
 /// The capacities of the traps whose tables these are.
 fn capacities(alloc: Global, rows: &[&Table]) -> Result<Vec<u64>, TextFault>
     ensures passed { OnOk result (NoneApplies (row_checks trap_checks 0 (tables_of rows.now))) }
-    ensures capacities { IfOk result (λ v. map capacity_in (tables_of rows.now) ≡ map given v.items) }
-    ensures refused { IfErr result (λ e. e ≢ fault.NoMemory
-        → IsFirstOf (row_checks trap_checks 0 (tables_of rows.now)) e) }
+    ensures capacities { IfOk result
+        (λ v. map capacity_in (tables_of rows.now) ≡ map given v.items) }
+    ensures refused { IfErr result (IsFirstOrNoMemory (row_checks trap_checks 0 (tables_of rows.now))) }
 {
     let mut capacities = Vec::new(alloc);
     for (row, table) in rows.iter().enumerate() {
@@ -101,8 +99,7 @@ fn capacities(alloc: Global, rows: &[&Table]) -> Result<Vec<u64>, TextFault>
 fn ends(alloc: Global, rows: &[&Table]) -> Result<Vec<(Place, Place)>, TextFault>
     ensures passed { OnOk result (NoneApplies (row_checks segment_checks 0 (tables_of rows.now))) }
     ensures ends { IfOk result (λ v. map ends_in (tables_of rows.now) ≡ map given_ends v.items) }
-    ensures refused { IfErr result (λ e. e ≢ fault.NoMemory
-        → IsFirstOf (row_checks segment_checks 0 (tables_of rows.now)) e) }
+    ensures refused { IfErr result (IsFirstOrNoMemory (row_checks segment_checks 0 (tables_of rows.now))) }
 {
     let mut ends = Vec::new(alloc);
     for (row, table) in rows.iter().enumerate() {
@@ -114,8 +111,9 @@ fn ends(alloc: Global, rows: &[&Table]) -> Result<Vec<(Place, Place)>, TextFault
 /// The capacities of all traps.
 fn traps(alloc: Global, table: &Table) -> Result<Vec<u64>, TextFault>
     ensures passed { OnOk result (NoneApplies (all_trap_checks (table_view table.now))) }
-    ensures capacities { IfOk result (λ v. map capacity_in (given_or [] (traps_in (table_view table.now))) ≡ map given v.items) }
-    ensures refused { IfErr result (λ e. e ≢ fault.NoMemory → IsFirstOf (all_trap_checks (table_view table.now)) e) }
+    ensures capacities { IfOk result
+        (λ v. map capacity_in (trap_rows (table_view table.now)) ≡ map given v.items) }
+    ensures refused { IfErr result (IsFirstOrNoMemory (all_trap_checks (table_view table.now))) }
 {
     let spot = Part::Trap.at(0);
     let value = required(table, "trap", spot)?;
@@ -126,8 +124,9 @@ fn traps(alloc: Global, table: &Table) -> Result<Vec<u64>, TextFault>
 /// The ends of all segments.
 fn segments(alloc: Global, table: &Table) -> Result<Vec<(Place, Place)>, TextFault>
     ensures passed { OnOk result (NoneApplies (all_segment_checks (table_view table.now))) }
-    ensures ends { IfOk result (λ v. map ends_in (given_or [] (segments_in (table_view table.now))) ≡ map given_ends v.items) }
-    ensures refused { IfErr result (λ e. e ≢ fault.NoMemory → IsFirstOf (all_segment_checks (table_view table.now)) e) }
+    ensures ends { IfOk result
+        (λ v. map ends_in (segment_rows (table_view table.now)) ≡ map given_ends v.items) }
+    ensures refused { IfErr result (IsFirstOrNoMemory (all_segment_checks (table_view table.now))) }
 {
     let spot = Part::Segment.at(0);
     let Some(value) = field(table, "segment") else {
@@ -164,7 +163,7 @@ fn given_times(table: &Table) -> Result<Times, TextFault>
 /// All times.
 fn times(table: &Table) -> Result<Times, TextFault>
     ensures passed { OnOk result (NoneApplies (all_time_checks (table_view table.now))) }
-    ensures times { IfOk result (λ t. described_times (given_or no_members (times_in (table_view table.now))) ≡ t) }
+    ensures times { IfOk result (λ t. described_times (time_table (table_view table.now)) ≡ t) }
     ensures refused { IfErr result (IsFirstOf (all_time_checks (table_view table.now))) }
 {
     let spot = Part::Time.at(0);
@@ -181,7 +180,7 @@ fn times(table: &Table) -> Result<Times, TextFault>
 pub(crate) fn parts(alloc: Global, table: &Table) -> Result<Parts, TextFault>
     ensures passed { OnOk result (NoneApplies (document_checks (table_view table.now))) }
     ensures described { IfOk result (λ p. Describes (table_view table.now) (data_of p)) }
-    ensures refused { IfErr result (λ e. e ≢ fault.NoMemory → IsFirstOf (document_checks (table_view table.now)) e) }
+    ensures refused { IfErr result (IsFirstOrNoMemory (document_checks (table_view table.now))) }
 {
     known_fields(
         table,

@@ -24,7 +24,8 @@ pub(crate) fn place_of(text: &[u8]) -> Option<Place>
 /// The number up to 255 whose decimal text stands in the text between these two.
 fn number_between(front: &[u8], text: &[u8], back: &[u8]) -> Option<u8>
     ensures found { IfSome result (λ n. text.now ≡ front.now ++ (decimal n ++ back.now)) }
-    ensures exact { (n : ℕ) → n < 256 → text.now ≡ front.now ++ (decimal n ++ back.now) → result ≡ Some n }
+    ensures exact { (n : ℕ) → n < 256
+        → text.now ≡ front.now ++ (decimal n ++ back.now) → result ≡ Some n }
 {
     let rest = text.strip_prefix(front)?;
     let digits = rest.strip_suffix(back)?;

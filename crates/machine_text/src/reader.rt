@@ -23,9 +23,9 @@ use toml::Table;
 ///   called `move`; the usual time where one is absent.
 ///
 /// What is refused is told in this order: a text that is no TOML; an unknown field of the document;
-/// `junctions`; `trap`, and for each trap its unknown field and its capacity; `segment`, and for each
-/// segment its unknown field, `a` and `b`; `time`, its unknown field, and its fields in the order of
-/// `Times`; and last what `Machine::build` refuses.
+/// `junctions`; `trap`, and for each trap its unknown field and its capacity; `segment`, and for
+/// each segment its unknown field, `a` and `b`; `time`, its unknown field, and its fields in the
+/// order of `Times`; and last what `Machine::build` refuses.
 ///
 /// Memory is taken for the parts that the text lists, and not by the numbers that it names. That it ran
 /// out says nothing of the text.
@@ -41,7 +41,8 @@ pub fn read_machine(alloc: Global, text: &[u8]) -> Result<Machine, TextFault>
 /// The table of a text that is TOML.
 fn table_of(alloc: Global, text: &[u8]) -> Result<Table, TextFault>
     ensures table { IfOk result (λ t. IsTableOf text.now (table_view t)) }
-    ensures refused { IfErr result (λ e. e ≢ fault.NoMemory → (e ≡ fault.NotToml) × IsRefusalOf text.now e) }
+    ensures refused { IfErr result
+        (λ e. e ≢ fault.NoMemory → (e ≡ fault.NotToml) × IsRefusalOf text.now e) }
 {
     match toml::table_from_slice(alloc, text) {
         Ok(table) => Ok(table),
