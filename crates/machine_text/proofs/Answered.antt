@@ -1,4 +1,4 @@
--- A text has one answer at most, and its table is refused or describes some parts.
+-- A text has one answer: it is that of a machine or is refused, and never both.
 use Rattle.std.proofs.Common.{◌≡◌, ℕ, ◌+◌, ◌⊎◌, inl, inr, true, false, List, [], ◌∷◌, ◌++◌, map, Option, Some, None, IsUtf8, refl, sym, ap, subst, ◌∙◌}
 use Rattle.std.specs.Str.{is_utf8}
 use Rattle.std.proofs.lemmas.Bool.{cases_Bool, false≢true}
@@ -11,6 +11,7 @@ use Rattle.qccd_machine.specs.declared.fault.MachineFault.{MachineFault}
 use Rattle.qccd_machine.specs.declared.place.Place.{Place}
 use Rattle.qccd_machine.specs.Machine.{MachineData, machine_data}
 use Rattle.qccd_machine.specs.Fault.{IsFirst}
+use Rattle.qccd_machine.proofs.Every.{every_parts}
 use Rattle.qccd_machine.proofs.Sound.{none_applies, one_first}
 use Rattle.machine_text.specs.declared.fault.TextFault.{TextFault}
 use Rattle.machine_text.specs.declared.fault.TextFault.TheVariants.{NotToml, MissingField, WrongValue, UnknownField, Machine, NoMemory}
@@ -19,6 +20,7 @@ use Rattle.machine_text.specs.declared.fault.Part.TheVariants.{Top, Trap, Segmen
 use Rattle.machine_text.specs.Field.{Found, absent, wrong, given, given_or}
 use Rattle.machine_text.specs.Checks.{Check, first_of, NoneApplies, IsFirstOf, spot, known_checks, optional_checks, required_checks, row_checks, trap_names, segment_names, document_names, capacity_in, traps_in, trap_checks, all_trap_checks, end_a_in, end_b_in, ends_in, segments_in, segment_checks, all_segment_checks, times_in, all_time_checks, junctions_in, document_checks}
 use Rattle.machine_text.specs.Machine.{IsTableOf, Describes, IsDescription, IsMachineOf, IsRefusedParts, IsRefusedField, IsRefusalOf, given_ends, described_times}
+use Rattle.machine_text.proofs.Refusals.{refused-field}
 
 -- ---- one answer at most
 
@@ -185,8 +187,24 @@ of_characters : (text : List ℕ) → IsUtf8 text → (there : Option Members) �
 of_characters text characters None is = inl (λ fields is_table. none-some fields (sym is ∙ is_table.1))
 of_characters text characters (Some fields) is = of_table text fields (characters, is) (first_of (document_checks fields)) refl
 
-pub answered : (text : List ℕ) → Answered text
+answered : (text : List ℕ) → Answered text
 answered text = elim (cases_Bool (is_utf8 text)) [
   | inl characters ↦ of_characters text (IsUtf8-from_is_utf8 text characters) (parse_document text) refl
   | inr other ↦ inl (λ fields is_table. false≢true (sym other ∙ is_utf8-from_IsUtf8 text is_table.0))
+]
+
+-- the parts that it describes are valid or have a first fault
+of_description : (text : List ℕ) (parts : MachineData) → IsDescription text parts → ((m : MachineData) × IsMachineOf text m) ⊎ ((fault : TextFault) × IsRefusalOf text fault)
+of_description text parts description = elim (every_parts parts) [
+  | inl valid ↦ inl (parts, record { description = description; valid = valid })
+  | inr (fault, first) ↦ inr (Machine fault, record { parts = parts; description = description; first = first })
+]
+
+pub every_text : (text : List ℕ) → ((m : MachineData) × IsMachineOf text m) ⊎ ((fault : TextFault) × IsRefusalOf text fault)
+every_text text = elim (answered text) [
+  | inl no_toml ↦ inr (NotToml, no_toml)
+  | inr table ↦ elim table [
+    | inl (fault, refused) ↦ inr (fault, refused-field text fault refused)
+    | inr (parts, description) ↦ of_description text parts description
+  ]
 ]

@@ -3,8 +3,7 @@
 ghost use Rattle.std.specs.Prelude.{◌≡◌, ℕ, ◌⊎◌, List};
 ghost use Rattle.qccd_machine.specs.Machine.{MachineData};
 ghost use Rattle.machine_text.specs.declared.fault.TextFault.{TextFault};
-ghost use Rattle.machine_text.specs.declared.fault.TextFault.TheVariants.{NotToml};
-ghost use Rattle.machine_text.specs.Machine.{IsDescription, IsMachineOf, IsRefusedField, IsRefusalOf};
+ghost use Rattle.machine_text.specs.Machine.{IsMachineOf, IsRefusalOf};
 
 /// A text is that of one machine at most.
 pub fn one_machine()
@@ -24,10 +23,8 @@ pub fn not_both()
         → IsMachineOf text m → IsRefusalOf text fault → ⊥ }
 {}
 
-/// Each text is no TOML, or is refused for a field, or describes some parts. That parts are refused
-/// or make a machine is a law of theirs.
+/// Each text is that of a machine or is refused.
 pub fn every_text()
-    ensures { (text : List ℕ) → IsRefusalOf text NotToml
-        ⊎ (((fault : TextFault) × IsRefusedField text fault)
-        ⊎ ((parts : MachineData) × IsDescription text parts)) }
+    ensures { (text : List ℕ) → ((m : MachineData) × IsMachineOf text m)
+        ⊎ ((fault : TextFault) × IsRefusalOf text fault) }
 {}

@@ -1,5 +1,8 @@
 pub mod Counts
+pub mod Decided
+pub mod Every
 pub mod Joined
+pub mod Linked
 pub mod Paths
 pub mod Presets
 pub mod Questions

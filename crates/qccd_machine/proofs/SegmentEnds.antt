@@ -2,7 +2,6 @@
 use Rattle.std.proofs.Common.{◌≡◌, ℕ, zero, suc, ◌+◌, ◌<◌, ◌⊎◌, inl, inr, List, length, get_or, take, Some, refl, sym, ◌∙◌, subst, arith}
 use Rattle.std.specs.Prelude.{slice_get}
 use Rattle.std.specs.List.{Any}
-use Rattle.std.proofs.lemmas.Bool.{cases_lt}
 use Rattle.std.proofs.lemmas.List.{get_or-take, length-take}
 use Rattle.std.proofs.lemmas.Option.{same_Some, slice_get_within, slice_get_read, get_or_from_slice_get}
 use Rattle.qccd_machine.specs.declared.place.Place.{Place}
@@ -11,6 +10,7 @@ use Rattle.qccd_machine.specs.declared.fault.MachineFault.TheVariants.{BadEnd, S
 use Rattle.qccd_machine.specs.Machine.{MachineData, IsThere, site}
 use Rattle.qccd_machine.specs.Fault.{Applies, turn, TakesEnd, HasTakenEnd}
 use Rattle.qccd_machine.specs.Search.{NoneWithin, IsFirstWithin}
+use Rattle.qccd_machine.proofs.Decided.{Decided, decided_less}
 use Rattle.qccd_machine.proofs.Turns.{none_of_part, none_of_questions, of_segment}
 
 abbrev pub Meets : Place × Place → Place × Place → Type 0
@@ -39,9 +39,9 @@ any_from_taken m xs s ends xs_are found = subst (λ (ys : List (Place × Place))
 same_ends : (m : MachineData) (s : ℕ) (ends others : Place × Place) → slice_get m.segments s ≡ Some ends → slice_get m.segments s ≡ Some others → others ≡ ends
 same_ends m s ends others e f = same_Some others ends (sym f ∙ e)
 
-pub is_there : (m : MachineData) (place : Place) → IsThere m place ⊎ (IsThere m place → ⊥)
-is_there m (TrapEnd t end) = elim (cases_lt t.0 (length m.capacities)) [ inl less ↦ inl less | inr more ↦ inr (λ h. omega arith) ]
-is_there m (Junction j) = elim (cases_lt j.0 m.junctions) [ inl less ↦ inl less | inr more ↦ inr (λ h. omega arith) ]
+pub is_there : (m : MachineData) (place : Place) → Decided (IsThere m place)
+is_there m (TrapEnd t end) = decided_less t.0 (length m.capacities)
+is_there m (Junction j) = decided_less j.0 m.junctions
 
 -- the segment passes a question
 not_bad : (m : MachineData) (s : ℕ) (ends : Place × Place) → slice_get m.segments s ≡ Some ends → IsThere m ends.0 × IsThere m ends.1 → Applies m (BadEnd (record { 0 = s })) → ⊥

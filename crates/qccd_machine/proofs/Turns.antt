@@ -7,7 +7,7 @@ use Rattle.qccd_machine.specs.declared.fault.MachineFault.{MachineFault}
 use Rattle.qccd_machine.specs.declared.fault.MachineFault.TheVariants.{NoTrap, TooMany, Capacity, EndTaken, BadEnd, SelfJoined, JunctionDegree, NotConnected, TableRange, NoMemory}
 use Rattle.qccd_machine.specs.Machine.{MachineData}
 use Rattle.qccd_machine.specs.Fault.{Applies, Turn, turn, turn_of, IsEarlier, IsFirst}
-use Rattle.qccd_machine.specs.Search.{at_counts, NoneWithin, IsFirstWithin}
+use Rattle.qccd_machine.specs.Search.{at_counts, IsWithin, NoneWithin, IsFirstWithin}
 
 -- a turn is earlier than another or it isn't
 earlier_or_not : (a b : Turn) → IsEarlier a b ⊎ (IsEarlier a b → ⊥)
@@ -23,10 +23,27 @@ earlier_or_not a b =
       | inr checks ↦ elim checks [ inl less ↦ inl (inl less) | inr more ↦ inr (λ e. omega arith) ]
     ]
 
+-- what is earlier than a turn is earlier than what isn't earlier than that turn
+earlier_still : (a b c : Turn) → IsEarlier a b → (IsEarlier c b → ⊥) → IsEarlier a c
+earlier_still a b c first second = grind arith
+
+-- one of some turns is one of more
+widened : (from next last to this : Turn) → (IsEarlier next from → ⊥) → (IsEarlier to last → ⊥) → IsWithin next last this → IsWithin from to this
+widened from next last to this in_front behind within = ((λ e. within.0 (earlier_still this from next e in_front)), earlier_still this last to within.1 behind)
+
 -- nothing applies over two ranges of turns that meet
 pub none_joined : (m : MachineData) (a b c : Turn) → NoneWithin m a b → NoneWithin m b c → NoneWithin m a c
 none_joined m a b c before after fault within applies =
     elim (earlier_or_not (turn_of fault) b) [ inl e ↦ before fault (within.0, e) applies | inr later ↦ after fault (later, within.1) applies ]
+
+-- the first of some turns is the first of more, where nothing applies at those before
+pub first_widened : (m : MachineData) (from next last to : Turn) (fault : MachineFault) → (IsEarlier next from → ⊥) → (IsEarlier to last → ⊥)
+    → NoneWithin m from next → IsFirstWithin m next last fault → IsFirstWithin m from to fault
+first_widened m from next last to fault in_front behind before first = record {
+  within = widened from next last to (turn_of fault) in_front behind first.within;
+  applies = first.applies;
+  none_earlier = none_joined m from next (turn_of fault) before first.none_earlier;
+}
 
 -- the first of some turns is the first of all, where nothing applies at those before
 pub first_after : (m : MachineData) (from to : Turn) (fault : MachineFault) → NoneWithin m at_counts from → IsFirstWithin m from to fault → IsFirst m fault
@@ -81,7 +98,7 @@ named-turn_of (NotConnected (res.Bit b)) = refl
 named-turn_of (TableRange field) = refl
 named-turn_of NoMemory = refl
 
-applies_named : (m : MachineData) (fault : MachineFault) (number part : ℕ) → (turn_of fault).check ≡ number → (turn_of fault).part ≡ part → Applies m fault → Applies m (named number part (turn_of fault).question)
+pub applies_named : (m : MachineData) (fault : MachineFault) (number part : ℕ) → (turn_of fault).check ≡ number → (turn_of fault).part ≡ part → Applies m fault → Applies m (named number part (turn_of fault).question)
 applies_named m fault number part check_is part_is applies =
     let e : fault ≡ named number part (turn_of fault).question = sym (named-turn_of fault) ∙ ap (λ c. named c (turn_of fault).part (turn_of fault).question) check_is ∙ ap (λ p. named number p (turn_of fault).question) part_is in
     subst (Applies m) e applies

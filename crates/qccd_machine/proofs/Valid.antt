@@ -1,11 +1,10 @@
 -- Parts in which no fault applies are valid, and in valid ones none applies.
 use Rattle.std.proofs.Common.{◌≡◌, ℕ, ◌<◌, ◌≤◌, ◌⊎◌, inl, inr, List, length, get_or, Some, sym, ◌∙◌, ap, subst, arith}
 use Rattle.std.specs.Prelude.{slice_get, All}
-use Rattle.std.proofs.lemmas.Bool.{cases_Bool, cases_lt, false≢true}
+use Rattle.std.proofs.lemmas.Bool.{cases_lt}
 use Rattle.std.proofs.lemmas.Option.{slice_get-get_or}
 use Rattle.qccd_base.specs.declared.names.End.{End}
 use Rattle.qccd_base.specs.declared.names.TrapId.{TrapId}
-use Rattle.qccd_base.specs.declared.names.Res.{Res}
 use Rattle.qccd_base.specs.declared.names.Res.TheVariants as res
 use Rattle.qccd_base.specs.Times.{times_of}
 use Rattle.qccd_machine.specs.declared.place.Place.{Place}
@@ -13,12 +12,11 @@ use Rattle.qccd_machine.specs.declared.place.Place.TheVariants.{TrapEnd}
 use Rattle.qccd_machine.specs.declared.fault.PartKind.TheVariants.{Traps, Segments, Junctions}
 use Rattle.qccd_machine.specs.declared.fault.MachineFault.{MachineFault}
 use Rattle.qccd_machine.specs.declared.fault.MachineFault.TheVariants.{NoTrap, TooMany, Capacity, EndTaken, BadEnd, SelfJoined, JunctionDegree, NotConnected, TableRange}
-use Rattle.qccd_machine.specs.declared.reach.Reached.{Reached}
-use Rattle.qccd_machine.specs.Machine.{MachineData, IsValid, IsThere, IsReached, degree_of, ends_at, same_place, site}
+use Rattle.qccd_machine.specs.Machine.{MachineData, IsValid, IsThere, degree_of, ends_at, same_place, site}
 use Rattle.qccd_machine.specs.Fault.{Applies, turn_of, TakesEnd}
-use Rattle.qccd_machine.specs.Reach.{MarksReached, is_marked}
 use Rattle.qccd_machine.specs.Search.{check, NoneWithin}
 use Rattle.qccd_machine.proofs.Counts.{HasOne, count_at_most_one}
+use Rattle.qccd_machine.proofs.Linked.{reached_or_not}
 use Rattle.qccd_machine.proofs.SamePlace.{same_place-true}
 use Rattle.qccd_machine.proofs.SegmentEnds.{is_there}
 
@@ -53,9 +51,8 @@ free_from_none m apart free t end =
     (λ k ends is h h'. apart k (ends, is, ap site (sym (same_place-true (TrapEnd t end) ends.0 h) ∙ same_place-true (TrapEnd t end) ends.1 h')))
     (λ i k ends others before is is' has has'. free k (others, is', (i, ends, before, is, taken_from_one t end ends others has has')))
 
--- that a site is reached or not has to be known: the marks of the search tell it
-pub valid_from_none : (m : MachineData) → ((r : Res) → IsReached m r ⊎ (IsReached m r → ⊥)) → NoneWithin m (check 0) (check 10) → IsValid m
-valid_from_none m decided none =
+pub valid_from_none : (m : MachineData) → NoneWithin m (check 0) (check 10) → IsValid m
+valid_from_none m none =
     let fails : (fault : MachineFault) → (turn_of fault).check < 10 → Applies m fault → ⊥ = λ fault early. none fault ((λ e. omega arith), inl early) in record {
       some_trap = elim (cases_lt 0 (length m.capacities)) [ inl h ↦ h | inr h ↦ absurd (fails NoTrap (omega arith) (omega arith)) ];
       few_traps = at_most (length m.capacities) 32 (fails (TooMany Traps) (omega arith));
@@ -70,11 +67,7 @@ valid_from_none m decided none =
       degrees = λ j within.
           let fits : ((degree_of m j < 2) ⊎ (4 < degree_of m j)) → ⊥ = λ wrong. fails (JunctionDegree (record { 0 = j })) (omega arith) (within, wrong) in
           (at_most 2 (degree_of m j) (λ h. fits (inl h)), at_most (degree_of m j) 4 (λ h. fits (inr h)));
-      traps_reached = λ t within. elim (decided (res.Trap t)) [ inl h ↦ h | inr h ↦ absurd (fails (NotConnected (res.Trap t)) (omega arith) (within, h)) ];
-      junctions_reached = λ j within. elim (decided (res.Junc j)) [ inl h ↦ h | inr h ↦ absurd (fails (NotConnected (res.Junc j)) (omega arith) (within, h)) ];
+      traps_reached = λ t within. elim (reached_or_not m (res.Trap t)) [ inl h ↦ h | inr h ↦ absurd (fails (NotConnected (res.Trap t)) (omega arith) (within, h)) ];
+      junctions_reached = λ j within. elim (reached_or_not m (res.Junc j)) [ inl h ↦ h | inr h ↦ absurd (fails (NotConnected (res.Junc j)) (omega arith) (within, h)) ];
       times = λ k d within. at_most (get_or (times_of m.times) k d) 1000000 (λ h. fails (TableRange k) (omega arith) (get_or (times_of m.times) k d, slice_get-get_or (times_of m.times) k d within, h));
     }
-
-pub decided_by_marks : (m : MachineData) (marks : Reached) → MarksReached m marks → (r : Res) → IsReached m r ⊎ (IsReached m r → ⊥)
-decided_by_marks m marks known r =
-    elim (cases_Bool (is_marked marks r)) [ inl h ↦ inl ((known r).0 h) | inr h ↦ inr (λ reached. false≢true (sym h ∙ (known r).1 reached)) ]

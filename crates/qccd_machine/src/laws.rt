@@ -1,6 +1,6 @@
 //! What holds of all parts and their faults. Each function does nothing: its contract is the law.
 
-ghost use Rattle.std.specs.Prelude.{◌≡◌};
+ghost use Rattle.std.specs.Prelude.{◌≡◌, ◌⊎◌};
 ghost use Rattle.qccd_machine.specs.declared.fault.MachineFault.{MachineFault};
 ghost use Rattle.qccd_machine.specs.Fault.{Applies, IsFirst};
 ghost use Rattle.qccd_machine.specs.Machine.{MachineData, IsValid};
@@ -13,4 +13,15 @@ pub fn no_fault_of_a_machine()
 /// One fault at most is the first. So parts are refused in one way at most.
 pub fn one_first_fault()
     ensures { (m : MachineData) (fault other : MachineFault) → IsFirst m fault → IsFirst m other → fault ≡ other }
+{}
+
+/// Each machine of parts is valid or has a first fault. So parts are those of a machine or are
+/// refused, and never neither.
+pub fn every_parts()
+    ensures { (m : MachineData) → IsValid m ⊎ ((fault : MachineFault) × IsFirst m fault) }
+{}
+
+/// Parts to which no fault applies are valid. So a machine is what has no fault.
+pub fn valid_without_fault()
+    ensures { (m : MachineData) → ((fault : MachineFault) → Applies m fault → ⊥) → IsValid m }
 {}

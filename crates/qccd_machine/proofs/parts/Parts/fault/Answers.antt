@@ -5,7 +5,7 @@ use Rattle.qccd_machine.specs.declared.fault.MachineFault.TheVariants.{BadEnd}
 use Rattle.qccd_machine.specs.Fault.{data_of}
 use Rattle.qccd_machine.specs.Search.{at_capacities, at_counts, at_degrees, at_end, at_far_junctions, at_far_traps, at_segments, at_times, NoneWithin}
 use Rattle.qccd_machine.proofs.Turns.{first_after, none_joined}
-use Rattle.qccd_machine.proofs.Valid.{decided_by_marks, there_from_none, valid_from_none}
+use Rattle.qccd_machine.proofs.Valid.{there_from_none, valid_from_none}
 use Rattle.qccd_machine.proofs.parts.Parts.fault.Goals as goal
 
 if_none_then : (o : Option MachineFault) (P Q : Type 0) → (P → Q) → IfNone o P → IfNone o Q
@@ -55,5 +55,5 @@ returns-clause-none c =
     let to_far_junctions : NoneWithin m at_counts at_far_junctions = none_joined m at_counts at_far_traps at_far_junctions to_far_traps c.in_default-far_trap.ensures.none in
     let to_times : NoneWithin m at_counts at_times = none_joined m at_counts at_far_junctions at_times to_far_junctions c.in_default-far_junction.ensures.none in
     if_none_then c.wrong_time.result (NoneWithin m at_times at_end) _
-    (λ last. valid_from_none m (decided_by_marks m c.reached-marks.result c.reached-marks.ensures) (none_joined m at_counts at_times at_end to_times last))
+    (λ last. valid_from_none m (none_joined m at_counts at_times at_end to_times last))
     c.wrong_time.ensures.none
