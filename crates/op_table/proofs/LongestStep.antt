@@ -66,7 +66,7 @@ inside-le m s (GSwap t low high) z valid safe step =
     between-le low high (omega arith) (omega arith)
 inside-le m s (Item number t item at) z valid safe step =
     let needs : ((has_trap m t.0 && has_bits s item) ≡ true) × (list_all (λ p. nat_lt p (ions_in s t.0)) at ≡ true) =
-        two_needs NoPlace Position _ _ ((WrongQubit, carries s t.0 at item.qubits) ∷ []) step.legal in
+    two_needs NoPlace Position _ _ ((WrongQubit, carries s t.0 at item.qubits) ∷ []) step.legal in
     let there : (has_trap m t.0 ≡ true) × (has_bits s item ≡ true) = both_pass _ _ needs.0 in
     item-le item.kind (ions_in s t.0) at (most_ions m s t.0 valid safe there.0) needs.1
 inside-le m s (Fence number item traps) z valid safe step = omega arith
