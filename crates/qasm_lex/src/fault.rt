@@ -1,6 +1,6 @@
 //! Why a text has no list of tokens.
 
-use std::alloc::{AllocError, AllocFailed};
+use std::alloc::AllocFailed;
 use thiserror::Error;
 
 /// Why a text has no list of tokens. Of several faults in a text the first one is told.
@@ -17,17 +17,6 @@ pub enum LexFault {
     NoMemory,
 }
 
-impl From<AllocError> for LexFault {
-    ghost use Rattle.std.specs.Prelude.{◌≡◌};
-    ghost use Rattle.qasm_lex.specs.declared.fault.LexFault.TheVariants.{NoMemory};
-
-    ghost from_gives = { λ _ e. e ≡ NoMemory };
-
-    fn from(_refused: AllocError) -> LexFault {
-        LexFault::NoMemory
-    }
-}
-
 impl<T: Drop> From<AllocFailed<T>> for LexFault {
     ghost use Rattle.std.specs.Prelude.{◌≡◌};
     ghost use Rattle.qasm_lex.specs.declared.fault.LexFault.TheVariants.{NoMemory};
@@ -35,17 +24,6 @@ impl<T: Drop> From<AllocFailed<T>> for LexFault {
     ghost from_gives = { λ _ e. e ≡ NoMemory };
 
     fn from(_refused: AllocFailed<T>) -> LexFault {
-        LexFault::NoMemory
-    }
-}
-
-impl From<qccd_base::NoMemory> for LexFault {
-    ghost use Rattle.std.specs.Prelude.{◌≡◌};
-    ghost use Rattle.qasm_lex.specs.declared.fault.LexFault.TheVariants.{NoMemory};
-
-    ghost from_gives = { λ _ e. e ≡ NoMemory };
-
-    fn from(_refused: qccd_base::NoMemory) -> LexFault {
         LexFault::NoMemory
     }
 }

@@ -1,7 +1,7 @@
 //! Why parts make no machine.
 
 use qccd_base::{JuncId, Res, SegId, TrapId};
-use std::alloc::{AllocError, AllocFailed};
+use std::alloc::AllocError;
 use thiserror::Error;
 
 /// What there may be too many of.
@@ -59,17 +59,6 @@ impl From<AllocError> for MachineFault {
     ghost from_gives = { λ _ e. e ≡ NoMemory };
 
     fn from(_refused: AllocError) -> MachineFault {
-        MachineFault::NoMemory
-    }
-}
-
-impl<T: Drop> From<AllocFailed<T>> for MachineFault {
-    ghost use Rattle.std.specs.Prelude.{◌≡◌};
-    ghost use Rattle.qccd_machine.specs.declared.fault.MachineFault.TheVariants.{NoMemory};
-
-    ghost from_gives = { λ _ e. e ≡ NoMemory };
-
-    fn from(_refused: AllocFailed<T>) -> MachineFault {
         MachineFault::NoMemory
     }
 }

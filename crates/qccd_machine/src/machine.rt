@@ -164,9 +164,9 @@ impl Machine {
         }
     }
 
-    /// How many operations one item takes at most: a hop of a qubit for each ordered pair of traps,
-    /// and the item itself. A hop brings the qubit to the end of its chain, splits, moves and merges
-    /// it, and takes it through each junction at most once.
+    /// The bound that is stated for the operations of one item: a hop of a qubit for each ordered pair
+    /// of traps, and the item itself. A hop brings the qubit to the end of its chain, splits, moves and
+    /// merges it, and takes it through each junction at most once.
     pub fn worst(&self) -> u32
         ensures { result ≡ worst_of self.now }
     {
