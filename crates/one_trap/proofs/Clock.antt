@@ -1,7 +1,8 @@
 -- One running clock times the items of one trap, and lists them in their order.
-use Rattle.std.proofs.Common.{◌≡◌, ℕ, ◌+◌, ◌≤◌, max, Bool, true, false, cond, ◌&&◌, ◌||◌, eqb, ltb, List, [], ◌∷◌, ◌++◌, map, ◌⊎◌, refl, sym, ap, inl, inr, arith}
+use Rattle.std.proofs.Common.{◌≡◌, ℕ, ◌+◌, ◌≤◌, max, Bool, true, false, cond, eqb, ltb, List, [], ◌∷◌, ◌++◌, map, refl, sym, ap, inl, inr, arith}
 use Rattle.std.specs.Prelude.{filter, flat_map}
 use Rattle.std.specs.List.{enumerate_from, list_any, AllByRecursion}
+use Rattle.std.proofs.lemmas.Bool.{and_parts, or_cases, or_right}
 use Rattle.std.proofs.lemmas.Bool.Decides.{nat_tests}
 use Rattle.qccd_base.specs.Greatest.{greatest}
 use Rattle.qccd_base.specs.Resource.{rank_of, number_of, same_res, comes_before, among, with_res, ascending}
@@ -18,17 +19,12 @@ use Rattle.one_trap.specs.Program.{op_of, the_trap}
 use Rattle.one_trap.specs.Lines.{item_time, timed_item, op_lines, end_time}
 use Rattle.one_trap.proofs.Row.{eqb-same}
 
-both_true : (a b : Bool) → (a && b) ≡ true → (a ≡ true) × (b ≡ true)
-both_true true true h = (refl, refl)
-both_true true false h = cc
-both_true false b h = cc
-
 eqb-is : (a b : ℕ) → eqb a b ≡ true → a ≡ b
 eqb-is a b h = grind (nat_tests, arith)
 
 same_parts : (q r : Res) → same_res q r ≡ true → (rank_of q ≡ rank_of r) × (number_of q ≡ number_of r)
 same_parts q r h =
-    let both = both_true (eqb (rank_of q) (rank_of r)) (eqb (number_of q) (number_of r)) h in
+    let both = and_parts (eqb (rank_of q) (rank_of r)) (eqb (number_of q) (number_of r)) h in
     (eqb-is _ _ both.0, eqb-is _ _ both.1)
 
 same_refl : (r : Res) → same_res r r ≡ true
@@ -39,18 +35,10 @@ among-same : (qs : List Res) (q r : Res) → (rank_of q ≡ rank_of r) × (numbe
 among-same [] q r h = refl
 among-same (p ∷ ps) q r h = rw (h.0, h.1, among-same ps q r h) refl
 
-or_true : (a b : Bool) → (a || b) ≡ true → (a ≡ true) ⊎ (b ≡ true)
-or_true true b h = inl refl
-or_true false b h = inr h
-
-or_right : (a b : Bool) → b ≡ true → (a || b) ≡ true
-or_right true b h = refl
-or_right false b h = h
-
 -- two lists with a resource in common
 any_common : (xs ys : List Res) (r : Res) → among xs r ≡ true → among ys r ≡ true → list_any (among ys) xs ≡ true
 any_common [] ys r h k = cc
-any_common (x ∷ xs) ys r h k = elim (or_true (same_res x r) (among xs r) h) as (λ _. list_any (among ys) (x ∷ xs) ≡ true) [
+any_common (x ∷ xs) ys r h k = elim (or_cases (same_res x r) (among xs r) h) as (λ _. list_any (among ys) (x ∷ xs) ≡ true) [
   | inl same ↦ rw (among-same ys x r (same_parts x r same), k) refl
   | inr rest ↦ or_right (among ys x) (list_any (among ys) xs) (any_common xs ys r rest k)
 ]

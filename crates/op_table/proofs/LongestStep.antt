@@ -1,9 +1,8 @@
 -- No step takes more than three gates with 30 ions between their two.
-use Rattle.std.proofs.Common.{◌≡◌, ℕ, ◌+◌, ◌<◌, ◌≤◌, Bool, true, false, ◌&&◌, List, [], ◌∷◌, length, get_or, nat_lt, None, refl, arith}
+use Rattle.std.proofs.Common.{◌≡◌, ℕ, ◌<◌, ◌≤◌, Bool, true, false, ◌&&◌, List, [], ◌∷◌, length, get_or, nat_lt, None, refl, arith}
 use Rattle.std.specs.List.{list_all}
-use Rattle.std.proofs.lemmas.Bool.{ltb-true}
+use Rattle.std.proofs.lemmas.Bool.{and_parts, ltb-true}
 use Rattle.std.proofs.lemmas.List.Sums.{AllPass-from_list_all}
-use Rattle.qccd_base.specs.declared.names.TrapId.{TrapId}
 use Rattle.qccd_circuit.specs.declared.kinds.ItemKind.{ItemKind}
 use Rattle.qccd_circuit.specs.declared.kinds.ItemKind.TheVariants as kind
 use Rattle.qccd_machine.specs.Machine.{MachineData, IsValid}
@@ -22,10 +21,6 @@ two_needs : (c d : Why) (a b : Bool) (rest : List (Why × Bool)) → first_cause
 two_needs c d true true rest h = (refl, refl)
 two_needs c d true false rest h = cc
 two_needs c d false b rest h = cc
-
-both_pass : (a b : Bool) → (a && b) ≡ true → (a ≡ true) × (b ≡ true)
-both_pass true b h = (refl, h)
-both_pass false b h = cc
 
 -- a trap that is there holds 32 ions at most
 most_ions : (m : MachineData) (s : State) (t : ℕ) → IsValid m → IsSafe m s → has_trap m t ≡ true → ions_in s t ≤ 32
@@ -67,7 +62,7 @@ inside-le m s (GSwap t low high) z valid safe step =
 inside-le m s (Item number t item at) z valid safe step =
     let needs : ((has_trap m t.0 && has_bits s item) ≡ true) × (list_all (λ p. nat_lt p (ions_in s t.0)) at ≡ true) =
     two_needs NoPlace Position _ _ ((WrongQubit, carries s t.0 at item.qubits) ∷ []) step.legal in
-    let there : (has_trap m t.0 ≡ true) × (has_bits s item ≡ true) = both_pass _ _ needs.0 in
+    let there : (has_trap m t.0 ≡ true) × (has_bits s item ≡ true) = and_parts (has_trap m t.0) (has_bits s item) needs.0 in
     item-le item.kind (ions_in s t.0) at (most_ions m s t.0 valid safe there.0) needs.1
 inside-le m s (Fence number item traps) z valid safe step = omega arith
 

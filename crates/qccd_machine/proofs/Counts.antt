@@ -1,14 +1,10 @@
 -- Ends of segments, counted.
 use Rattle.std.proofs.Common.{◌≡◌, ℕ, zero, suc, ◌+◌, ◌<◌, ◌≤◌, ◌⊎◌, inl, inr, Bool, true, false, cond, List, [], ◌∷◌, Some, refl, sym, ◌∙◌, ap, subst, arith}
 use Rattle.std.specs.Prelude.{count_by, flat_map, slice_get}
-use Rattle.std.proofs.lemmas.Bool.{cases_Bool}
+use Rattle.std.proofs.lemmas.Bool.{cases_Bool, false_from_ne_true}
 use Rattle.std.proofs.lemmas.List.Sums.{sum_by-cons}
 use Rattle.std.proofs.lemmas.Option.{same_Some}
 use Rattle.qccd_machine.specs.declared.place.Place.{Place}
-
-not_true : (b : Bool) → (b ≡ true → ⊥) → b ≡ false
-not_true true h = absurd (h refl)
-not_true false h = refl
 
 -- what two tests and the rest add up to
 one_at_most : (a b : Bool) (rest all : ℕ) → all ≡ cond a 1 0 + (cond b 1 0 + rest)
@@ -46,8 +42,8 @@ pub count_none : (p : Place → Bool) (segments : List (Place × Place)) → ((k
     → count_by p (flat_map both segments) ≡ 0
 count_none p [] none = refl
 count_none p (ends ∷ rest) none =
-    let first : p ends.0 ≡ false = not_true (p ends.0) (λ h. none 0 ends refl (inl h)) in
-    let second : p ends.1 ≡ false = not_true (p ends.1) (λ h. none 0 ends refl (inr h)) in
+    let first : p ends.0 ≡ false = false_from_ne_true (p ends.0) (λ h. none 0 ends refl (inl h)) in
+    let second : p ends.1 ≡ false = false_from_ne_true (p ends.1) (λ h. none 0 ends refl (inr h)) in
     let after : count_by p (flat_map both rest) ≡ 0 = count_none p rest (λ k others is. none (suc k) others is) in
     count-cons p ends rest ∙ ap (λ b. cond b 1 0 + (cond (p ends.1) 1 0 + count_by p (flat_map both rest))) first
     ∙ ap (λ b. 0 + (cond b 1 0 + count_by p (flat_map both rest))) second ∙ ap (λ n. 0 + (0 + n)) after
@@ -61,7 +57,7 @@ count_at_most_one p [] apart free = omega arith
 count_at_most_one p (ends ∷ rest) apart free =
     elim (cases_Bool (p ends.0)) [
       | inl first ↦
-          let second : p ends.1 ≡ false = not_true (p ends.1) (λ h. apart 0 ends refl first h) in
+          let second : p ends.1 ≡ false = false_from_ne_true (p ends.1) (λ h. apart 0 ends refl first h) in
           let after : count_by p (flat_map both rest) ≡ 0 = count_none p rest (λ k others is has. free 0 (suc k) ends others (omega arith) refl is (inl first) has) in
           one_at_most (p ends.0) (p ends.1) (count_by p (flat_map both rest)) (count_by p (flat_map both (ends ∷ rest))) (count-cons p ends rest) (inr (inl (second, after)))
       | inr first ↦ elim (cases_Bool (p ends.1)) [

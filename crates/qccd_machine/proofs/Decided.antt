@@ -3,6 +3,7 @@ use Rattle.std.proofs.Common.{◌≡◌, ℕ, zero, suc, ◌<◌, ◌⊎◌, inl
 use Rattle.std.specs.Prelude.{slice_get}
 use Rattle.std.proofs.lemmas.Bool.{cases_Bool, cases_eq, cases_lt, false≢true}
 use Rattle.std.proofs.lemmas.Option.{none-some, same_Some, slice_get_cases}
+use Rattle.qccd_base.specs.Resource.{rank_of, number_of}
 use Rattle.qccd_base.specs.declared.names.Res.{Res}
 use Rattle.qccd_base.specs.declared.names.Res.TheVariants.{Trap, Seg, Junc, Bit}
 use Rattle.qccd_machine.specs.declared.place.Place.{Place}
@@ -53,39 +54,27 @@ decided_at xs k P each = elim (slice_get_cases xs k).1 [
 
 -- ---- resources
 
--- the kind of a resource and its number, and back
-kind_of : Res → ℕ
-kind_of (Trap t) = 0
-kind_of (Seg s) = 1
-kind_of (Junc j) = 2
-kind_of (Bit b) = 3
-
-number_of : Res → ℕ
-number_of (Trap t) = t.0
-number_of (Seg s) = s.0
-number_of (Junc j) = j.0
-number_of (Bit b) = b.0
-
+-- the resource of a kind and a number
 numbered : ℕ → ℕ → Res
 numbered zero n = Trap (record { 0 = n })
 numbered (suc zero) n = Seg (record { 0 = n })
 numbered (suc (suc zero)) n = Junc (record { 0 = n })
 numbered (suc (suc (suc kind))) n = Bit (record { 0 = n })
 
-numbered-own : (r : Res) → numbered (kind_of r) (number_of r) ≡ r
-unfolding kind_of number_of numbered
+numbered-own : (r : Res) → numbered (rank_of r) (number_of r) ≡ r
+unfolding numbered
 numbered-own (Trap t) = refl
 numbered-own (Seg s) = refl
 numbered-own (Junc j) = refl
 numbered-own (Bit b) = refl
 
 pub decided_same : (a b : Res) → Decided (a ≡ b)
-decided_same a b = elim (cases_eq (kind_of a) (kind_of b)) [
+decided_same a b = elim (cases_eq (rank_of a) (rank_of b)) [
   | inl kinds ↦ elim (cases_eq (number_of a) (number_of b)) [
-    | inl numbers ↦ inl (sym (numbered-own a) ∙ ap (λ k. numbered k (number_of a)) kinds ∙ ap (numbered (kind_of b)) numbers ∙ numbered-own b)
+    | inl numbers ↦ inl (sym (numbered-own a) ∙ ap (λ k. numbered k (number_of a)) kinds ∙ ap (numbered (rank_of b)) numbers ∙ numbered-own b)
     | inr apart ↦ inr (λ same. apart (ap number_of same))
   ]
-  | inr apart ↦ inr (λ same. apart (ap kind_of same))
+  | inr apart ↦ inr (λ same. apart (ap rank_of same))
 ]
 
 -- ---- ends of segments

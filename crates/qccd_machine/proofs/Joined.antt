@@ -1,7 +1,7 @@
 -- Which segments have an end at a place, and that only one has where the machine lets one.
 use Rattle.std.proofs.Common.{◌≡◌, ℕ, ◌<◌, ◌≤◌, Bool, true, false, cond, ◌||◌, ◌⊎◌, inl, inr, List, Some, None, length, nat_lt, get_or, position, refl, sym, subst, arith, slice_get}
 use Rattle.std.specs.List.{position_or_len}
-use Rattle.std.proofs.lemmas.Bool.{cases_lt}
+use Rattle.std.proofs.lemmas.Bool.{cases_lt, or_cases, or_right}
 use Rattle.std.proofs.lemmas.Bool.Decides.{nat_tests}
 use Rattle.std.proofs.lemmas.List.Quantifiers.{position-Some}
 use Rattle.std.proofs.lemmas.List.Sums.{fails_before_first}
@@ -16,21 +16,13 @@ use Rattle.qccd_machine.proofs.SamePlace.{same_place-true, same_place-refl}
 abbrev pub touches : Place → Place × Place → Bool
 touches p ends = same_place p ends.0 || same_place p ends.1
 
-either : (a b : Bool) → (a || b) ≡ true → (a ≡ true) ⊎ (b ≡ true)
-either true b h = inl refl
-either false b h = inr h
-
-or_right : (a : Bool) → (a || true) ≡ true
-or_right true = refl
-or_right false = refl
-
 pub touches-from : (p : Place) (ends : Place × Place) → (ends.0 ≡ p) ⊎ (ends.1 ≡ p) → touches p ends ≡ true
 touches-from p (a, b) (inl is) = subst (λ (q : Place). (same_place p q || same_place p b) ≡ true) (sym is) (rw (same_place-refl p) refl)
-touches-from p (a, b) (inr is) = subst (λ (q : Place). (same_place p a || same_place p q) ≡ true) (sym is) (rw (same_place-refl p) (or_right (same_place p a)))
+touches-from p (a, b) (inr is) = subst (λ (q : Place). (same_place p a || same_place p q) ≡ true) (sym is) (or_right (same_place p a) (same_place p p) (same_place-refl p))
 
 pub touches-to : (p : Place) (ends : Place × Place) → touches p ends ≡ true → (ends.0 ≡ p) ⊎ (ends.1 ≡ p)
 touches-to p (a, b) h =
-    elim (either (same_place p a) (same_place p b) h) [ inl is ↦ inl (sym (same_place-true p a is)) | inr is ↦ inr (sym (same_place-true p b is)) ]
+    elim (or_cases (same_place p a) (same_place p b) h) [ inl is ↦ inl (sym (same_place-true p a is)) | inr is ↦ inr (sym (same_place-true p b is)) ]
 
 -- where one end at most is at the place, one segment at most has it
 has : (p : Place) (ends : Place × Place) → (ends.0 ≡ p) ⊎ (ends.1 ≡ p) → HasOne (same_place p) ends

@@ -1,6 +1,6 @@
 -- The test whether two places are one.
-use Rattle.std.proofs.Common.{◌≡◌, ℕ, Bool, true, false, ◌&&◌, eqb, refl, ◌∙◌, ap}
-use Rattle.std.proofs.lemmas.Bool.{false≢true}
+use Rattle.std.proofs.Common.{◌≡◌, ℕ, Bool, true, ◌&&◌, eqb, refl, ◌∙◌, ap}
+use Rattle.std.proofs.lemmas.Bool.{and_parts, false≢true}
 use Rattle.std.proofs.lemmas.Bool.Decides.{Decides-eqb}
 use Rattle.qccd_base.specs.Names.{trap, junction}
 use Rattle.qccd_base.specs.declared.names.End.{End}
@@ -18,10 +18,6 @@ same_end-true Right Right h = refl
 same_end-refl : (e : End) → same_end e e ≡ true
 same_end-refl Left = refl
 same_end-refl Right = refl
-
-and_parts : (a b : Bool) → (a && b) ≡ true → (a ≡ true) × (b ≡ true)
-and_parts true b h = (refl, h)
-and_parts false b h = absurd (false≢true h)
 
 pub same_place-true : (p q : Place) → same_place p q ≡ true → p ≡ q
 same_place-true (TrapEnd t e) (TrapEnd u f) h =
