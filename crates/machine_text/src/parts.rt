@@ -11,15 +11,9 @@ ghost use Rattle.machine_text.specs.Texts.{tables_of};
 use crate::fault::{Part, Spot, TextFault};
 use crate::field::{field, known_fields, place, required, tables, time_number, whole_number};
 use qccd_base::Times;
-use qccd_machine::{Parts, Place, time_name};
+use qccd_machine::{Parts, Place, TIME_NAMES, time_name};
 use std::alloc::Global;
 use toml::Table;
-
-// The fields of `time`, in the order of those of `Times`.
-const TIME_NAMES: [&str; 12] = [
-    "split", "merge", "move", "cross2", "cross3", "cross4", "rot", "gate1", "measure", "reset",
-    "gate2", "between",
-];
 
 /// The capacity of the trap with this number, whose table this is.
 fn trap(table: &Table, row: u64) -> Result<u64, TextFault>

@@ -19,7 +19,7 @@ pub mod worked;
 
 pub use fault::{MachineFault, PartKind};
 pub use machine::Machine;
-pub use names::time_name;
+pub use names::{TIME_NAMES, time_name};
 pub use parts::Parts;
 pub use place::{Place, Preset};
 pub use preset::preset_machine;

@@ -19,8 +19,8 @@ pub fn preset_slots()
     ensures single { slots_of (preset_of Preset.Single 16) ≡ 16 }
 {}
 
-/// How many operations one item takes at most: 30 ordered pairs of traps in the line and in the two
-/// rows, with 18 or 30 operations for each, and the item.
+/// The bounds that are stated for the operations of one item: 30 ordered pairs of traps in the line and
+/// in the two rows, with 18 or 30 operations for each, and the item.
 pub fn preset_worst()
     ensures line { worst_of (preset_of Preset.L6 16) ≡ 541 }
     ensures two_rows { worst_of (preset_of Preset.G2x3 16) ≡ 901 }

@@ -13,8 +13,8 @@ ghost use Rattle.qccd_machine.specs.Machine.{IsReached, IsValid, degree_of, slot
 ghost use Rattle.qccd_machine.specs.Line.{line, stray};
 ghost use Rattle.qccd_machine.specs.Preset.{at_junction, at_left, at_right};
 
-/// A line of 32 traps that hold two ions each takes 63 qubits, and one item takes at most 3,969
-/// operations.
+/// A line of 32 traps that hold two ions each takes 63 qubits, and the bound that is stated for the
+/// operations of one item is 3,969.
 pub fn line_of_32_pairs()
     ensures segments { length (line 32 2).segments ≡ 31 }
     ensures slots { slots_of (line 32 2) ≡ 63 }

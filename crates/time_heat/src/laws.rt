@@ -23,7 +23,7 @@ pub fn longest_program()
         → All (λ work. ions_inside work ≤ 30) works → length works ≤ 4194304 → time_of_all t works < 400000000000000 }
 {}
 
-/// Each step raises the sum of all heats by what is said of it, and a leave by nothing.
+/// By what each step raises the sum of the heats that it changes.
 pub fn heat_of_steps()
     ensures split { (H n : ℕ) → 0 < n → split_ion_heat H n + split_trap_heat H n ≡ H + heating Split }
     ensures merge { (H h : ℕ) → merged_heat H h ≡ H + h + heating Merge }
@@ -32,7 +32,7 @@ pub fn heat_of_steps()
     ensures rot { (H : ℕ) → rotated_heat H ≡ H + heating Rot }
 {}
 
-/// The operations of the greatest program raise the sum of all heats by less than 10^10 thousandths.
+/// What the operations of the greatest program heat adds up to less than 10^10 thousandths.
 pub fn hottest_program()
     ensures { (works : List Work) → length works ≤ 4194304 → heating_of_all works < 10000000000 }
 {}
