@@ -1,5 +1,6 @@
 -- When a transport program implements a circuit.
 use Rattle.std.specs.Prelude.{◌≡◌, ℕ, List, map, All, Some, slice_get, IsTrue}
+use Rattle.std.specs.List.{AllByRecursion}
 use Rattle.qccd_base.specs.declared.names.TrapId.{TrapId}
 use Rattle.qccd_circuit.specs.Item.{ItemData}
 use Rattle.qccd_circuit.specs.Order.{SameOrder}
@@ -19,7 +20,7 @@ pub record Implements (p : ProgramData) (c : CircuitData) (m : MachineData) : Ty
   pub qubits : p.qubits ≡ c.qubits
   pub bits : p.bits ≡ c.bits
   pub start : IsStart m p.qubits p.start
-  pub ops : All IsOp p.ops
+  pub ops : AllByRecursion IsOp p.ops
   pub run : IsRun m (opening_of p) p.ops
   pub items : All (λ e. slice_get c.items e.0 ≡ Some e.1) (items_in p.ops)
   pub order : SameOrder c.items (map (λ e. e.0) (items_in p.ops))

@@ -25,7 +25,7 @@ use Rattle.one_trap.proofs.Legal.{after-items}
 use Rattle.one_trap.proofs.Clock.{lines-items, last-items}
 
 -- the entry of a row at its k-th place, which has number j
-entry_from : (a n k j : ℕ) → j ≡ a + k → k < n → find (λ (e : ℕ × Stand). is_at 0 j e.1.spot) (enumerate_from a (row a n)) ≡ Some (j, stand j)
+entry_from : (a n k j : ℕ) → j ≡ a + k → k < n → find (λ (e : ℕ × Stand). is_at 0 j e.1.place) (enumerate_from a (row a n)) ≡ Some (j, stand j)
 entry_from a zero k j is h = absurd (omega arith)
 entry_from a (suc n) zero j is h =
     let here : eqb a j ≡ true = eqb-same a j (omega arith) in
@@ -44,7 +44,7 @@ abbrev pub entry : ℕ → ℕ × Stand
 entry i = (i, stand i)
 
 chain-row : (n bits : ℕ) → chain_of (still n bits) 0 ≡ map entry (range_with_len 0 n)
-chain-row n bits = rw (ions_in-row n bits) (filter_map-range (λ k. find (λ (e : ℕ × Stand). is_at 0 k e.1.spot) (numbered_ions (still n bits))) entry 0 n (λ i low high. entry_from 0 n i i (omega arith) (omega arith)))
+chain-row n bits = rw (ions_in-row n bits) (filter_map-range (λ k. find (λ (e : ℕ × Stand). is_at 0 k e.1.place) (numbered_ions (still n bits))) entry 0 n (λ i low high. entry_from 0 n i i (omega arith) (omega arith)))
 
 pub decimal_zero : decimal 0 ≡ codes "0"
 unfolding digits

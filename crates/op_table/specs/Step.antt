@@ -1,6 +1,7 @@
 -- When an operation is legal in a state, and the state that it leaves.
 use Rattle.std.specs.Prelude.{◌≡◌, ℕ, ◌+◌, ◌-◌, Bool, true, false, ◌&&◌, ◌==◌, nat_lt, if◌then◌else◌, List, [], ◌∷◌, length, map, set, Option, Some, None, is_some, is_none, unwrap_or, get_or, slice_get}
 use Rattle.std.specs.List.{list_any, list_all}
+use Rattle.qccd_base.specs.FirstFailing.{first_failing}
 use Rattle.qccd_base.specs.declared.names.Qubit.{Qubit}
 use Rattle.qccd_base.specs.declared.names.End.{End}
 use Rattle.qccd_base.specs.declared.names.End.TheVariants.{Left, Right}
@@ -16,7 +17,7 @@ use Rattle.op_table.specs.declared.kinds.OpKind.TheVariants.{Split, Move, Enter,
 use Rattle.op_table.specs.declared.kinds.Why.{Why}
 use Rattle.op_table.specs.declared.kinds.Why.TheVariants.{NoPlace, NoIon, Occupied, Full, NotJoined, WrongEnd, Position, WrongQubit, WrongTraps}
 use Rattle.op_table.specs.Op.{IsOp}
-use Rattle.op_table.specs.State.{Spot, InTrap, OnSegment, InJunction, Stand, State, is_in, is_at, is_on, is_within, ions_in, qubit_at, heat_of, rider_on, rider_in}
+use Rattle.op_table.specs.State.{IonPlace, InTrap, OnSegment, InJunction, Stand, State, is_in_trap, is_at, is_on_segment, is_in_junction, ions_in, qubit_at, heat_of, rider_on, rider_in}
 
 abbrev pub has_trap : MachineData → ℕ → Bool
 has_trap m t = nat_lt t (length m.capacities)
@@ -49,15 +50,15 @@ same_seg_end B A = false
 same_seg_end B B = true
 
 -- whether an ion stands at that end of its segment
-abbrev pub stands_at : Option SegEnd → Spot → Bool
-stands_at None spot = false
+abbrev pub stands_at : Option SegEnd → IonPlace → Bool
+stands_at None place = false
 stands_at (Some e) (InTrap t k) = false
 stands_at (Some e) (OnSegment g f h) = same_seg_end e f
 stands_at (Some e) (InJunction j h) = false
 
 abbrev pub rider_stands : Option SegEnd → Option Stand → Bool
 rider_stands e None = false
-rider_stands e (Some w) = stands_at e w.spot
+rider_stands e (Some w) = stands_at e w.place
 
 -- the ions at the positions carry the qubits, one for one
 abbrev pub is_qubit : Qubit → Option Qubit → Bool
@@ -72,7 +73,7 @@ carries s t (k ∷ ks) (q ∷ qs) = is_qubit q (qubit_at s t k) && carries s t k
 
 -- whether an ion of the trap carries the qubit
 abbrev pub holds_qubit : State → ℕ → Qubit → Bool
-holds_qubit s t q = list_any (λ w. is_in t w.spot && (w.qubit.0 == q.0)) s.ions
+holds_qubit s t q = list_any (λ w. is_in_trap t w.place && (w.qubit.0 == q.0)) s.ions
 
 -- what an operation needs: each cause for which it is not legal, in the order in which they are told,
 -- with the test that has to pass
@@ -120,21 +121,17 @@ needs m s (Fence number item traps) =
     )
     ∷ []
 
-abbrev pub first_cause : List (Why × Bool) → Option Why
-first_cause [] = None
-first_cause (need ∷ rest) = if need.1 then first_cause rest else Some need.0
-
 -- why an operation is not legal, or none where it is
 abbrev pub why : MachineData → State → OpKind → Option Why
-why m s op = first_cause (needs m s op)
+why m s op = first_failing (needs m s op)
 
 -- each ion of the trap one index further down, or up
-abbrev pub shifted_down : ℕ → Spot → Spot
+abbrev pub shifted_down : ℕ → IonPlace → IonPlace
 shifted_down t (InTrap u k) = if u == t then InTrap u (k - 1) else InTrap u k
 shifted_down t (OnSegment g e h) = OnSegment g e h
 shifted_down t (InJunction j h) = InJunction j h
 
-abbrev pub shifted_up : ℕ → Spot → Spot
+abbrev pub shifted_up : ℕ → IonPlace → IonPlace
 shifted_up t (InTrap u k) = if u == t then InTrap u (k + 1) else InTrap u k
 shifted_up t (OnSegment g e h) = OnSegment g e h
 shifted_up t (InJunction j h) = InJunction j h
@@ -143,38 +140,46 @@ abbrev pub exchanged : ℕ → ℕ → ℕ → ℕ
 exchanged a b k = if k == a then b else (if k == b then a else k)
 
 -- the ions at two indexes of the trap exchange them
-abbrev pub rotated : ℕ → ℕ → ℕ → Spot → Spot
+abbrev pub rotated : ℕ → ℕ → ℕ → IonPlace → IonPlace
 rotated t a b (InTrap u k) = if u == t then InTrap u (exchanged a b k) else InTrap u k
 rotated t a b (OnSegment g e h) = OnSegment g e h
 rotated t a b (InJunction j h) = InJunction j h
 
-abbrev pub spot_heat : Spot → ℕ
-spot_heat (InTrap t k) = 0
-spot_heat (OnSegment g e h) = h
-spot_heat (InJunction j h) = h
+abbrev pub place_heat : IonPlace → ℕ
+place_heat (InTrap t k) = 0
+place_heat (OnSegment g e h) = h
+place_heat (InJunction j h) = h
 
 abbrev pub rider_heat : Option Stand → ℕ
 rider_heat None = 0
-rider_heat (Some w) = spot_heat w.spot
+rider_heat (Some w) = place_heat w.place
 
--- where an ion of trap t with n ions is after a split at that end onto the spot
-abbrev pub split_spot : ℕ → ℕ → End → Spot → Spot → Spot
-split_spot t n Left onto spot = if is_at t 0 spot then onto else shifted_down t spot
-split_spot t n Right onto spot = if is_at t (n - 1) spot then onto else spot
+-- where an ion of trap t with n ions is after a split at that end onto the place
+abbrev pub split_place : ℕ → ℕ → End → IonPlace → IonPlace → IonPlace
+split_place t n Left onto place = if is_at t 0 place then onto else shifted_down t place
+split_place t n Right onto place = if is_at t (n - 1) place then onto else place
 
 -- where an ion is after the ion on segment g has merged into trap t with n ions
-abbrev pub merge_spot : ℕ → ℕ → ℕ → End → Spot → Spot
-merge_spot g t n Left spot = if is_on g spot then InTrap t 0 else shifted_up t spot
-merge_spot g t n Right spot = if is_on g spot then InTrap t n else spot
+abbrev pub merge_place : ℕ → ℕ → ℕ → End → IonPlace → IonPlace
+merge_place g t n Left place = if is_on_segment g place then InTrap t 0 else shifted_up t place
+merge_place g t n Right place = if is_on_segment g place then InTrap t n else place
 
-abbrev pub move_spot : ℕ → Spot → Spot
-move_spot g (InTrap t k) = InTrap t k
-move_spot g (OnSegment s e h) = if s == g then OnSegment s (other_end e) (moved_heat h) else OnSegment s e h
-move_spot g (InJunction j h) = InJunction j h
+abbrev pub move_place : ℕ → IonPlace → IonPlace
+move_place g (InTrap t k) = InTrap t k
+move_place g (OnSegment s e h) = if s == g then OnSegment s (other_end e) (moved_heat h) else OnSegment s e h
+move_place g (InJunction j h) = InJunction j h
+
+-- where an ion is after the ion on segment g has entered junction j
+abbrev pub enter_place : ℕ → ℕ → IonPlace → IonPlace
+enter_place g j place = if is_on_segment g place then InJunction j (entered_heat (place_heat place)) else place
+
+-- where an ion is after the ion in junction j has left onto that end of segment g
+abbrev pub leave_place : ℕ → ℕ → SegEnd → IonPlace → IonPlace
+leave_place j g end place = if is_in_junction j place then OnSegment g end (place_heat place) else place
 
 -- the state with each ion's place changed
-abbrev pub placed : (Spot → Spot) → State → State
-placed f s = record s { ions = map (λ (w : Stand). record w { spot = f w.spot }) s.ions }
+abbrev pub placed : (IonPlace → IonPlace) → State → State
+placed f s = record s { ions = map (λ (w : Stand). record w { place = f w.place }) s.ions }
 
 -- the state with another heat of one trap
 abbrev pub heated : ℕ → ℕ → State → State
@@ -183,8 +188,8 @@ heated t heat s = record s { heats = set s.heats t heat }
 -- the qubit that the ion carries after those at two indexes of a trap were exchanged
 abbrev pub swapped : State → ℕ → ℕ → ℕ → Stand → Qubit
 swapped s t low high w =
-    if is_at t low w.spot then unwrap_or (qubit_at s t high) w.qubit
-    else (if is_at t high w.spot then unwrap_or (qubit_at s t low) w.qubit else w.qubit)
+    if is_at t low w.place then unwrap_or (qubit_at s t high) w.qubit
+    else (if is_at t high w.place then unwrap_or (qubit_at s t low) w.qubit else w.qubit)
 
 -- the state that a legal operation leaves; all that a case does not name stays
 abbrev pub effect : MachineData → State → OpKind → State
@@ -192,16 +197,13 @@ effect m s (Split t e g) =
     let n = ions_in s t.0 in
     let heat = heat_of s t.0 in
     let onto = OnSegment g.0 (unwrap_or (end_at m g.0 (TrapEnd t e)) A) (split_ion_heat heat n) in
-    heated t.0 (split_trap_heat heat n) (placed (split_spot t.0 n e onto) s)
-effect m s (Move g) = placed (move_spot g.0) s
-effect m s (Enter g j) =
-    placed (λ spot. if is_on g.0 spot then InJunction j.0 (entered_heat (spot_heat spot)) else spot) s
-effect m s (Leave j g) =
-    let end = unwrap_or (end_at m g.0 (Junction j)) A in
-    placed (λ spot. if is_within j.0 spot then OnSegment g.0 end (spot_heat spot) else spot) s
+    heated t.0 (split_trap_heat heat n) (placed (split_place t.0 n e onto) s)
+effect m s (Move g) = placed (move_place g.0) s
+effect m s (Enter g j) = placed (enter_place g.0 j.0) s
+effect m s (Leave j g) = placed (leave_place j.0 g.0 (unwrap_or (end_at m g.0 (Junction j)) A)) s
 effect m s (Merge g t e) =
     heated t.0 (merged_heat (heat_of s t.0) (rider_heat (rider_on s g.0)))
-    (placed (merge_spot g.0 t.0 (ions_in s t.0) e) s)
+    (placed (merge_place g.0 t.0 (ions_in s t.0) e) s)
 effect m s (Rot t p) = heated t.0 (rotated_heat (heat_of s t.0)) (placed (rotated t.0 p (p + 1)) s)
 effect m s (GSwap t low high) =
     record s { ions = map (λ (w : Stand). record w { qubit = swapped s t.0 low high w }) s.ions }

@@ -1,3 +1,4 @@
+pub mod FirstFailing
 pub mod Greatest
 pub mod Line
 pub mod Names

@@ -10,7 +10,7 @@ use Rattle.qccd_circuit.specs.declared.kinds.ItemKind.{ItemKind}
 use Rattle.qccd_circuit.specs.declared.kinds.ItemKind.TheVariants.{Gate1, Gate2, Measure, Reset, Barrier}
 use Rattle.op_table.specs.declared.kinds.OpKind.{OpKind}
 use Rattle.op_table.specs.declared.kinds.OpKind.TheVariants.{Split, Move, Enter, Leave, Merge, Rot, GSwap, Item, Fence}
-use Rattle.op_table.specs.State.{Spot, InTrap, OnSegment, InJunction, Stand, State, is_at, is_on, is_within, ions_in, heat_of}
+use Rattle.op_table.specs.State.{IonPlace, InTrap, OnSegment, InJunction, Stand, State, is_at, is_on_segment, is_in_junction, ions_in, heat_of}
 use Rattle.op_table.specs.Clock.{Timed, timed}
 use Rattle.claim_core.specs.Program.{ProgramData, end_of}
 use Rattle.transport_asm.specs.OpText.{next_word, qubit_text, op_text}
@@ -43,7 +43,7 @@ numbered_ions s = enumerate_from 0 s.ions
 
 -- the ions of a trap, from left to right
 abbrev pub chain_of : State → ℕ → List (ℕ × Stand)
-chain_of s t = filter_map (λ k. find (λ e. is_at t k e.1.spot) (numbered_ions s)) (range_with_len 0 (ions_in s t))
+chain_of s t = filter_map (λ k. find (λ e. is_at t k e.1.place) (numbered_ions s)) (range_with_len 0 (ions_in s t))
 
 abbrev pub end_line : State → ℕ → List ℕ
 end_line s t = line (labelled (codes "end T") t ++ labelled (codes " heat ") (heat_of s t)
@@ -54,14 +54,14 @@ side_text A = codes "a"
 side_text B = codes "b"
 
 -- the line of an ion that the program leaves on a segment or in a junction
-abbrev pub stray_text : ℕ × Stand → Spot → List ℕ
+abbrev pub stray_text : ℕ × Stand → IonPlace → List ℕ
 stray_text e (InTrap t k) = []
 stray_text e (OnSegment g side heat) = line (labelled (codes "end S") g ++ next_word (side_text side)
     ++ labelled (codes " heat ") heat ++ next_word (entry_text e))
 stray_text e (InJunction j heat) = line (labelled (codes "end J") j ++ labelled (codes " heat ") heat ++ next_word (entry_text e))
 
-abbrev pub stray_lines : State → (Spot → Bool) → List ℕ
-stray_lines s here = flat_map (λ e. stray_text e e.1.spot) (filter (λ e. here e.1.spot) (numbered_ions s))
+abbrev pub stray_lines : State → (IonPlace → Bool) → List ℕ
+stray_lines s here = flat_map (λ e. stray_text e e.1.place) (filter (λ e. here e.1.place) (numbered_ions s))
 
 -- the column of the counts in which an operation stands
 abbrev pub item_column : ItemKind → ℕ
@@ -100,8 +100,8 @@ last_finish p = greatest (map (λ e. e.finish) (timed p.machine p.ops))
 abbrev pub end_lines : ProgramData → List ℕ
 end_lines p =
     flat_map (end_line (end_of p)) (range_with_len 0 (length p.machine.capacities))
-    ++ flat_map (λ g. stray_lines (end_of p) (is_on g)) (range_with_len 0 (length p.machine.segments))
-    ++ flat_map (λ j. stray_lines (end_of p) (is_within j)) (range_with_len 0 p.machine.junctions)
+    ++ flat_map (λ g. stray_lines (end_of p) (is_on_segment g)) (range_with_len 0 (length p.machine.segments))
+    ++ flat_map (λ j. stray_lines (end_of p) (is_in_junction j)) (range_with_len 0 p.machine.junctions)
 
 abbrev pub report_text : ProgramData → List ℕ
 report_text p =

@@ -10,10 +10,10 @@ abbrev pub scattered : State
 scattered = record {
   bits = 0;
   ions =
-      record { spot = InJunction 2 250; qubit = qubit 1 }
-      ∷ record { spot = OnSegment 13 A 233; qubit = qubit 3 }
-      ∷ record { spot = OnSegment 0 B 100; qubit = qubit 0 }
-      ∷ record { spot = InTrap 0 0; qubit = qubit 2 }
+      record { place = InJunction 2 250; qubit = qubit 1 }
+      ∷ record { place = OnSegment 13 A 233; qubit = qubit 3 }
+      ∷ record { place = OnSegment 0 B 100; qubit = qubit 0 }
+      ∷ record { place = InTrap 0 0; qubit = qubit 2 }
       ∷ [];
   heats = 400 ∷ [];
 }

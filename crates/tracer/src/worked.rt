@@ -2,7 +2,7 @@
 
 ghost use Rattle.std.specs.Prelude.{◌≡◌, [], codes};
 ghost use Rattle.qccd_base.specs.Line.{line};
-ghost use Rattle.op_table.specs.State.{is_on, is_within};
+ghost use Rattle.op_table.specs.State.{is_on_segment, is_in_junction};
 ghost use Rattle.tracer.specs.Report.{end_line, report_text, stray_lines};
 ghost use Rattle.tracer.specs.Bell.{bell, bell_report};
 ghost use Rattle.tracer.specs.Scattered.{scattered};
@@ -15,9 +15,9 @@ pub fn bell_pair()
 /// The lines of ions that are left outside the traps: the place, on a segment also the end at which
 /// the ion stands, the ion's heat and its qubit. A segment with no ion has no line.
 pub fn left_outside_traps()
-    ensures end_a { stray_lines scattered (is_on 13) ≡ line (codes "end S13 a heat 233 1:q3") }
-    ensures end_b { stray_lines scattered (is_on 0) ≡ line (codes "end S0 b heat 100 2:q0") }
-    ensures junction { stray_lines scattered (is_within 2) ≡ line (codes "end J2 heat 250 0:q1") }
-    ensures empty { stray_lines scattered (is_on 1) ≡ [] }
+    ensures end_a { stray_lines scattered (is_on_segment 13) ≡ line (codes "end S13 a heat 233 1:q3") }
+    ensures end_b { stray_lines scattered (is_on_segment 0) ≡ line (codes "end S0 b heat 100 2:q0") }
+    ensures junction { stray_lines scattered (is_in_junction 2) ≡ line (codes "end J2 heat 250 0:q1") }
+    ensures empty { stray_lines scattered (is_on_segment 1) ≡ [] }
     ensures trap { end_line scattered 0 ≡ line (codes "end T0 heat 400 3:q2") }
 {}
