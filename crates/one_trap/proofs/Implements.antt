@@ -13,7 +13,8 @@ use Rattle.qccd_circuit.specs.Circuit.{CircuitData, IsCircuit}
 use Rattle.qccd_machine.specs.Preset.{single}
 use Rattle.op_table.specs.Op.{IsOp}
 use Rattle.op_table.specs.State.{State, IsSafe}
-use Rattle.claim_core.specs.Program.{IsStart, opening_of, before}
+use Rattle.op_table.specs.Start.{IsStart}
+use Rattle.claim_core.specs.Program.{opening_of, before}
 use Rattle.claim_core.specs.Implements.{Implements, KeepsBounds}
 use Rattle.one_trap.specs.Program.{op_of, in_one_trap}
 use Rattle.one_trap.proofs.Ranges.{count_by-map}

@@ -1,7 +1,11 @@
-pub mod Op
+pub mod Act
+pub mod Clock
+pub mod Contents
 pub mod Example
+pub mod Op
+pub mod Run
+pub mod Start
 pub mod State
 pub mod Step
 pub mod Touch
-pub mod Clock
-pub mod Run
+pub mod Touched
