@@ -1,5 +1,6 @@
 -- The order of resources: traps, segments, junctions, bits, and each by number.
-use Rattle.std.specs.Prelude.{ℕ, Bool, false, ◌&&◌, ◌||◌, ◌==◌, nat_lt, if◌then◌else◌, List, [], ◌∷◌}
+use Rattle.std.specs.Prelude.{◌≡◌, ℕ, Bool, true, false, ◌&&◌, ◌||◌, ◌==◌, nat_lt, if◌then◌else◌, List, [], ◌∷◌}
+use Rattle.std.specs.List.{AllByRecursion}
 use Rattle.qccd_base.specs.declared.names.Res.{Res}
 use Rattle.qccd_base.specs.declared.names.Res.TheVariants.{Trap, Seg, Junc, Bit}
 
@@ -35,3 +36,8 @@ with_res r (q ∷ qs) = if same_res r q then q ∷ qs else (if comes_before r q 
 abbrev pub ascending : List Res → List Res
 ascending [] = []
 ascending (r ∷ rs) = with_res r (ascending rs)
+
+-- each resource of the list comes before all that follow it
+abbrev pub IsAscending : List Res → Type 0
+IsAscending [] = Unit {0}
+IsAscending (r ∷ rs) = AllByRecursion (λ q. comes_before r q ≡ true) rs × IsAscending rs

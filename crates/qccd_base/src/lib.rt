@@ -1,6 +1,7 @@
 //! Names, times and number texts that every crate of the compiler shares.
 #![tactic(auto)]
 
+pub mod laws;
 mod lists;
 mod names;
 mod numbers;
