@@ -7,6 +7,7 @@ use Rattle.std.proofs.lemmas.Str.{IsUtf8-from_is_utf8, is_utf8-from_IsUtf8}
 use Rattle.toml.specs.Data.{Members, no_members}
 use Rattle.toml.specs.Parse.{parse_document}
 use Rattle.qccd_base.specs.declared.times.Times.{Times}
+use Rattle.qccd_base.proofs.FirstFailing.{first_failing-split, one_first_failing}
 use Rattle.qccd_machine.specs.declared.fault.MachineFault.{MachineFault}
 use Rattle.qccd_machine.specs.declared.place.Place.{Place}
 use Rattle.qccd_machine.specs.Machine.{MachineData, machine_data}
@@ -18,7 +19,8 @@ use Rattle.machine_text.specs.declared.fault.TextFault.TheVariants.{NotToml, Mis
 use Rattle.machine_text.specs.declared.fault.Spot.{Spot}
 use Rattle.machine_text.specs.declared.fault.Part.TheVariants.{Top, Trap, Segment, Capacity, EndA, EndB, Junctions}
 use Rattle.machine_text.specs.Field.{Found, absent, wrong, given, given_or}
-use Rattle.machine_text.specs.Checks.{Check, first_of, NoneApplies, IsFirstOf, spot, known_checks, optional_checks, required_checks, row_checks, trap_names, segment_names, document_names, capacity_in, traps_in, trap_checks, all_trap_checks, end_a_in, end_b_in, ends_in, segments_in, segment_checks, all_segment_checks, times_in, all_time_checks, junctions_in, document_checks}
+use Rattle.qccd_base.specs.FirstFailing.{first_failing, NoneFails, IsFirstFailing}
+use Rattle.machine_text.specs.Checks.{Check, spot, known_checks, optional_checks, required_checks, row_checks, trap_names, segment_names, document_names, capacity_in, traps_in, trap_checks, all_trap_checks, end_a_in, end_b_in, ends_in, segments_in, segment_checks, all_segment_checks, times_in, all_time_checks, junctions_in, document_checks}
 use Rattle.machine_text.specs.Machine.{IsTableOf, Describes, IsDescription, IsMachineOf, IsRefusedParts, IsRefusedField, IsRefusalOf, given_ends, described_times}
 use Rattle.machine_text.proofs.Refusals.{refused-field}
 
@@ -59,19 +61,16 @@ one_parts text m n first second =
     one_description first.fields m n first.describes
     (subst (λ (f : Members). Describes f n) (one_table text second.fields first.fields second.is_table first.is_table) second.describes)
 
-one_fault : (fault other : TextFault) (checks : List Check) → IsFirstOf checks fault → IsFirstOf checks other → fault ≡ other
-one_fault fault other checks first second = same_Some fault other (sym first ∙ second)
-
 one_field : (text : List ℕ) (fault other : TextFault) → IsRefusedField text fault → IsRefusedField text other → fault ≡ other
 one_field text fault other first second =
-    one_fault fault other (document_checks first.fields) first.first
-    (subst (λ (f : Members). IsFirstOf (document_checks f) other) (one_table text second.fields first.fields second.is_table first.is_table) second.first)
+    one_first_failing (document_checks first.fields) fault other first.first
+    (subst (λ (f : Members). IsFirstFailing (document_checks f) other) (one_table text second.fields first.fields second.is_table first.is_table) second.first)
 
 -- a text with a description is refused for no field
 no_field : (text : List ℕ) (parts : MachineData) (fault : TextFault) → IsDescription text parts → IsRefusedField text fault → ⊥
 no_field text parts fault description refused =
     none-some fault (sym description.none_wrong
-    ∙ subst (λ (f : Members). IsFirstOf (document_checks f) fault) (one_table text refused.fields description.fields refused.is_table description.is_table) refused.first)
+    ∙ subst (λ (f : Members). IsFirstFailing (document_checks f) fault) (one_table text refused.fields description.fields refused.is_table description.is_table) refused.first)
 
 -- a refusal is that of a text that is no TOML, of a field, or of parts
 abbrev Kinds : List ℕ → TextFault → Type 0
@@ -117,34 +116,29 @@ not_both text m NoMemory machine refused = refused
 
 -- ---- a table in which nothing is wrong describes some parts
 
-split : (front back : List Check) → NoneApplies (front ++ back) → NoneApplies front × NoneApplies back
-split [] back none = (refl, none)
-split ((fault, true) ∷ front) back none = cc
-split ((fault, false) ∷ front) back none = split front back none
-
-required_given : {A : Type 0} (at : Spot) (value : Found A) → NoneApplies (required_checks at value) → (x : A) × (value ≡ given x)
+required_given : {A : Type 0} (at : Spot) (value : Found A) → NoneFails (required_checks at value) → (x : A) × (value ≡ given x)
 required_given at absent none = cc
 required_given at wrong none = cc
 required_given at (given x) none = (x, refl)
 
-capacities_given : (row : ℕ) (traps : List Members) → NoneApplies (row_checks trap_checks row traps) → (cs : List ℕ) × (map capacity_in traps ≡ map given cs)
+capacities_given : (row : ℕ) (traps : List Members) → NoneFails (row_checks trap_checks row traps) → (cs : List ℕ) × (map capacity_in traps ≡ map given cs)
 capacities_given row [] none = ([], refl)
 capacities_given row (trap ∷ more) none =
-    let both = split (trap_checks row trap) (row_checks trap_checks (row + 1) more) none in
-    let own = split (known_checks (spot Trap row) trap_names trap) (required_checks (spot Capacity row) (capacity_in trap)) both.0 in
+    let both = first_failing-split (trap_checks row trap) (row_checks trap_checks (row + 1) more) none in
+    let own = first_failing-split (known_checks (spot Trap row) trap_names trap) (required_checks (spot Capacity row) (capacity_in trap)) both.0 in
     let (c, is) = required_given (spot Capacity row) (capacity_in trap) own.1 in
     let (cs, are) = capacities_given (row + 1) more both.1 in
     (c ∷ cs, ap (λ (f : Found ℕ). f ∷ map capacity_in more) is ∙ ap (λ (fs : List (Found ℕ)). given c ∷ fs) are)
 
-ends_given : (row : ℕ) (segments : List Members) → NoneApplies (row_checks segment_checks row segments)
+ends_given : (row : ℕ) (segments : List Members) → NoneFails (row_checks segment_checks row segments)
     → (es : List (Place × Place)) × (map ends_in segments ≡ map given_ends es)
 ends_given row [] none = ([], refl)
 ends_given row (segment ∷ more) none =
-    let both = split (segment_checks row segment) (row_checks segment_checks (row + 1) more) none in
+    let both = first_failing-split (segment_checks row segment) (row_checks segment_checks (row + 1) more) none in
     let first = required_checks (spot EndA row) (end_a_in segment) in
     let second = required_checks (spot EndB row) (end_b_in segment) in
-    let own = split (known_checks (spot Segment row) segment_names segment) (first ++ second) both.0 in
-    let ends = split first second own.1 in
+    let own = first_failing-split (known_checks (spot Segment row) segment_names segment) (first ++ second) both.0 in
+    let ends = first_failing-split first second own.1 in
     let (a, is) = required_given (spot EndA row) (end_a_in segment) ends.0 in
     let (b, is') = required_given (spot EndB row) (end_b_in segment) ends.1 in
     let (es, are) = ends_given (row + 1) more both.1 in (
@@ -154,18 +148,18 @@ ends_given row (segment ∷ more) none =
           ∙ ap (λ (fs : List (Found Place × Found Place)). (given a, given b) ∷ fs) are,
     )
 
-described : (fields : Members) → NoneApplies (document_checks fields) → (m : MachineData) × Describes fields m
+described : (fields : Members) → NoneFails (document_checks fields) → (m : MachineData) × Describes fields m
 described fields none =
     let first = optional_checks (spot Junctions 0) (junctions_in fields) in
     let traps = all_trap_checks fields in
     let segments = all_segment_checks fields in
     let times = all_time_checks fields in
-    let after_known = split (known_checks (spot Top 0) document_names fields) (first ++ (traps ++ (segments ++ times))) none in
-    let after_junctions = split first (traps ++ (segments ++ times)) after_known.1 in
-    let after_traps = split traps (segments ++ times) after_junctions.1 in
-    let after_segments = split segments times after_traps.1 in
-    let trap_rows = split (required_checks (spot Trap 0) (traps_in fields)) (row_checks trap_checks 0 (given_or [] (traps_in fields))) after_traps.0 in
-    let segment_rows = split (optional_checks (spot Segment 0) (segments_in fields)) (row_checks segment_checks 0 (given_or [] (segments_in fields))) after_segments.0 in
+    let after_known = first_failing-split (known_checks (spot Top 0) document_names fields) (first ++ (traps ++ (segments ++ times))) none in
+    let after_junctions = first_failing-split first (traps ++ (segments ++ times)) after_known.1 in
+    let after_traps = first_failing-split traps (segments ++ times) after_junctions.1 in
+    let after_segments = first_failing-split segments times after_traps.1 in
+    let trap_rows = first_failing-split (required_checks (spot Trap 0) (traps_in fields)) (row_checks trap_checks 0 (given_or [] (traps_in fields))) after_traps.0 in
+    let segment_rows = first_failing-split (optional_checks (spot Segment 0) (segments_in fields)) (row_checks segment_checks 0 (given_or [] (segments_in fields))) after_segments.0 in
     let (cs, capacities) = capacities_given 0 (given_or [] (traps_in fields)) trap_rows.1 in
     let (es, ends) = ends_given 0 (given_or [] (segments_in fields)) segment_rows.1 in (
       machine_data cs (given_or 0 (junctions_in fields)) es (described_times (given_or no_members (times_in fields))),
@@ -177,7 +171,7 @@ described fields none =
 abbrev Answered : List ℕ → Type 0
 Answered text = IsRefusalOf text NotToml ⊎ (((fault : TextFault) × IsRefusedField text fault) ⊎ ((parts : MachineData) × IsDescription text parts))
 
-of_table : (text : List ℕ) (fields : Members) → IsTableOf text fields → (first : Option TextFault) → first_of (document_checks fields) ≡ first → Answered text
+of_table : (text : List ℕ) (fields : Members) → IsTableOf text fields → (first : Option TextFault) → first_failing (document_checks fields) ≡ first → Answered text
 of_table text fields is_table (Some fault) is = inr (inl (fault, record { fields = fields; is_table = is_table; first = is }))
 of_table text fields is_table None is =
     let (parts, describes) = described fields is in
@@ -185,7 +179,7 @@ of_table text fields is_table None is =
 
 of_characters : (text : List ℕ) → IsUtf8 text → (there : Option Members) → parse_document text ≡ there → Answered text
 of_characters text characters None is = inl (λ fields is_table. none-some fields (sym is ∙ is_table.1))
-of_characters text characters (Some fields) is = of_table text fields (characters, is) (first_of (document_checks fields)) refl
+of_characters text characters (Some fields) is = of_table text fields (characters, is) (first_failing (document_checks fields)) refl
 
 answered : (text : List ℕ) → Answered text
 answered text = elim (cases_Bool (is_utf8 text)) [

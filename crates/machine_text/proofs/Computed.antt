@@ -6,12 +6,13 @@ use Rattle.toml.specs.Parse.{parse_document}
 use Rattle.machine_text.specs.declared.fault.TextFault.{TextFault}
 use Rattle.machine_text.specs.declared.fault.TextFault.TheVariants.{NotToml}
 use Rattle.qccd_machine.specs.Machine.{MachineData}
-use Rattle.machine_text.specs.Checks.{first_of, NoneApplies, document_checks}
+use Rattle.qccd_base.specs.FirstFailing.{first_failing, NoneFails}
+use Rattle.machine_text.specs.Checks.{document_checks}
 use Rattle.machine_text.specs.Machine.{Describes, IsDescription, IsRefusedField, IsRefusalOf}
 use lib.Utf8.{scalars}
 
 at : (text : List ℕ) (fault : TextFault) (there : Option Members) → parse_document text ≡ there → scalars text ≡ true → encode_utf8_all text ≡ text
-    → option_and_then (λ fields. first_of (document_checks fields)) there ≡ Some fault → IsRefusedField text fault
+    → option_and_then (λ fields. first_failing (document_checks fields)) there ≡ Some fault → IsRefusedField text fault
 at text fault None is characters bytes first = cc
 at text fault (Some fields) is characters bytes first = record {
   fields = fields;
@@ -21,7 +22,7 @@ at text fault (Some fields) is characters bytes first = record {
 
 -- a text of characters below 128 that is refused for a field
 pub refused : (text : List ℕ) (fault : TextFault) → scalars text ≡ true → encode_utf8_all text ≡ text
-    → option_and_then (λ fields. first_of (document_checks fields)) (parse_document text) ≡ Some fault → IsRefusedField text fault
+    → option_and_then (λ fields. first_failing (document_checks fields)) (parse_document text) ≡ Some fault → IsRefusedField text fault
 refused text fault characters bytes first = at text fault (parse_document text) refl characters bytes first
 
 -- a text that is refused for not being TOML
@@ -31,7 +32,7 @@ not_toml text none = λ fields is_table. none-some fields (sym none ∙ is_table
 -- the table that there is describes these parts
 abbrev pub DescribesThere : Option Members → MachineData → Type 0
 DescribesThere None m = ⊥
-DescribesThere (Some fields) m = NoneApplies (document_checks fields) × Describes fields m
+DescribesThere (Some fields) m = NoneFails (document_checks fields) × Describes fields m
 
 describing_at : (text : List ℕ) (m : MachineData) (there : Option Members) → parse_document text ≡ there → scalars text ≡ true → encode_utf8_all text ≡ text
     → DescribesThere there m → IsDescription text m

@@ -1,6 +1,6 @@
 -- The code's table and its values beside the data that they stand for.
-use Rattle.std.proofs.Common.{◌≡◌, ℕ, Bool, false, not, ◌||◌, List, [], ◌∷◌, Option, Some, None, option_map, String, Global, Bor, string_bytes, map, IfOk, IfErr, refl, ap, sym}
-use Rattle.std.specs.List.{list_any}
+use Rattle.std.proofs.Common.{◌≡◌, ℕ, Bool, false, ◌&&◌, ◌||◌, List, [], ◌∷◌, Option, Some, None, option_map, String, Global, Bor, string_bytes, map, IfOk, IfErr, refl, ap, sym}
+use Rattle.std.specs.List.{list_any, list_all}
 use Rattle.std.specs.Map.{keys_of}
 use Rattle.std.specs.Option.{ok_or}
 use Rattle.std.specs.Str.{bytes_eq}
@@ -8,14 +8,14 @@ use Rattle.toml.specs.Data.{Data, string, integer, float, boolean, datetime, arr
 use Rattle.toml.specs.View.{view, members_view, items_view}
 use Rattle.toml.specs.declared.value.Value.{Value}
 use Rattle.machine_text.specs.declared.fault.TextFault.{TextFault}
-use Rattle.machine_text.specs.Field.{has_unknown, are_tables}
+use Rattle.machine_text.specs.Field.{has_only, are_tables}
 
--- an unknown field is an unknown key
-pub has_unknown-keys : (names : List (List ℕ)) (es : List (String Global × Value))
-    → list_any (λ k. not (list_any (bytes_eq (string_bytes k)) names)) (keys_of es) ≡ has_unknown names (members_view es)
-has_unknown-keys names [] = refl
-has_unknown-keys names (e ∷ es) =
-    ap (λ (b : Bool). not (list_any (bytes_eq (string_bytes e.0)) names) || b) (has_unknown-keys names es)
+-- the names of the fields are the keys
+pub has_only-keys : (names : List (List ℕ)) (es : List (String Global × Value))
+    → list_all (λ k. list_any (bytes_eq (string_bytes k)) names) (keys_of es) ≡ has_only names (members_view es)
+has_only-keys names [] = refl
+has_only-keys names (e ∷ es) =
+    ap (λ (b : Bool). list_any (bytes_eq (string_bytes e.0)) names && b) (has_only-keys names es)
 
 -- what a value is that is a table, or none
 pub table_is : (d : Data) (fields : Members) → as_table d ≡ Some fields → d ≡ table fields

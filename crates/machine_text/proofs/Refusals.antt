@@ -4,7 +4,8 @@ use Rattle.toml.specs.Data.{Members, no_members}
 use Rattle.machine_text.specs.declared.fault.TextFault.{TextFault}
 use Rattle.machine_text.specs.declared.fault.TextFault.TheVariants.{NotToml, MissingField, WrongValue, UnknownField, Machine, NoMemory}
 use Rattle.machine_text.specs.Field.{given_or}
-use Rattle.machine_text.specs.Checks.{Check, IsFirstOf, row_checks, traps_in, trap_checks, all_trap_checks, segments_in, segment_checks, all_segment_checks, times_in, time_table_checks, all_time_checks, document_checks}
+use Rattle.qccd_base.specs.FirstFailing.{IsFirstFailing}
+use Rattle.machine_text.specs.Checks.{Check, row_checks, traps_in, trap_checks, all_trap_checks, segments_in, segment_checks, all_segment_checks, times_in, time_table_checks, all_time_checks, document_checks}
 use Rattle.machine_text.specs.Machine.{IsRefusedField, IsRefusalOf}
 
 -- the refusal is of a field
@@ -50,10 +51,10 @@ of_document fields = (
   ),
 )
 
-first_is : (checks : List Check) (fault : TextFault) → AreOfFields checks → IsFirstOf checks fault → IsOfField fault
+first_is : (checks : List Check) (fault : TextFault) → AreOfFields checks → IsFirstFailing checks fault → IsOfField fault
 first_is [] fault fields first = cc
-first_is ((other, true) ∷ more) fault fields first = let is : other ≡ fault = cc in subst IsOfField is fields.0
-first_is ((other, false) ∷ more) fault fields first = first_is more fault fields.1 first
+first_is ((other, true) ∷ more) fault fields first = first_is more fault fields.1 first
+first_is ((other, false) ∷ more) fault fields first = let is : other ≡ fault = cc in subst IsOfField is fields.0
 
 by_fault : (text : List ℕ) (fault : TextFault) → IsOfField fault → IsRefusedField text fault → IsRefusalOf text fault
 by_fault text NotToml field refused = absurd field
@@ -63,7 +64,7 @@ by_fault text (UnknownField at) field refused = refused
 by_fault text (Machine fault) field refused = absurd field
 by_fault text NoMemory field refused = absurd field
 
--- a text is refused for the first check of its table that applies
+-- a text is refused for the first check of its table that fails
 pub refused-field : (text : List ℕ) (fault : TextFault) → IsRefusedField text fault → IsRefusalOf text fault
 refused-field text fault refused =
     by_fault text fault (first_is (document_checks refused.fields) fault (of_document refused.fields) refused.first) refused

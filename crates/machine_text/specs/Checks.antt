@@ -1,7 +1,8 @@
--- What may be wrong with the table of a machine's file, in the order in which it is looked for.
-use Rattle.std.specs.Prelude.{◌≡◌, ◌≢◌, ℕ, ◌+◌, Bool, if◌then◌else◌, List, [], ◌∷◌, ◌++◌, Option, None, Some, codes, flat_map}
+-- What has to hold of the table of a machine's file, in the order in which it is looked at.
+use Rattle.std.specs.Prelude.{◌≢◌, ℕ, ◌+◌, Bool, List, [], ◌∷◌, ◌++◌, codes, flat_map}
 use Rattle.std.specs.List.{range_with_len}
 use Rattle.toml.specs.Data.{Members, no_members, as_table}
+use Rattle.qccd_base.specs.FirstFailing.{IsFirstFailing}
 use Rattle.qccd_machine.specs.TimeName.{time_names, time_name_of}
 use Rattle.qccd_machine.specs.declared.place.Place.{Place}
 use Rattle.machine_text.specs.declared.fault.Part.{Part}
@@ -9,43 +10,30 @@ use Rattle.machine_text.specs.declared.fault.Part.TheVariants.{Top, Junctions, T
 use Rattle.machine_text.specs.declared.fault.Spot.{Spot}
 use Rattle.machine_text.specs.declared.fault.TextFault.{TextFault}
 use Rattle.machine_text.specs.declared.fault.TextFault.TheVariants.{MissingField, WrongValue, UnknownField, NoMemory}
-use Rattle.machine_text.specs.Field.{Found, found, is_absent, is_wrong, given_or, has_unknown, whole_number, time_number, place_in, tables_in}
+use Rattle.machine_text.specs.Field.{Found, found, is_there, is_not_wrong, given_or, has_only, whole_number, time_number, place_in, tables_in}
 
--- a check: the refusal, and whether it applies
+-- a check: the refusal, and the test that has to pass
 abbrev pub Check : Type 0
 Check = TextFault × Bool
 
--- the first refusal that applies
-abbrev pub first_of : List Check → Option TextFault
-first_of [] = None
-first_of (check ∷ more) = if check.1 then Some check.0 else first_of more
-
--- none of the checks applies
-abbrev pub NoneApplies : List Check → Type 0
-NoneApplies checks = first_of checks ≡ None
-
--- this is the first refusal that applies
-abbrev pub IsFirstOf : List Check → TextFault → Type 0
-IsFirstOf checks fault = first_of checks ≡ Some fault
-
--- the first refusal that applies, unless memory ran out, of which nothing is said
+-- the refusal of the first check that fails, unless memory ran out, of which nothing is said
 abbrev pub IsFirstOrNoMemory : List Check → TextFault → Type 0
-IsFirstOrNoMemory checks fault = fault ≢ NoMemory → IsFirstOf checks fault
+IsFirstOrNoMemory checks fault = fault ≢ NoMemory → IsFirstFailing checks fault
 
 abbrev pub spot : Part → ℕ → Spot
 spot part row = record { part = part; row = row }
 
--- of a table: it has a field of another name
+-- of a table: it has no field of another name
 abbrev pub known_checks : Spot → List (List ℕ) → Members → List Check
-known_checks at names fields = (UnknownField at, has_unknown names fields) ∷ []
+known_checks at names fields = (UnknownField at, has_only names fields) ∷ []
 
 -- of a field that may be absent
 abbrev pub optional_checks : {A : Type 0} → Spot → Found A → List Check
-optional_checks at value = (WrongValue at, is_wrong value) ∷ []
+optional_checks at value = (WrongValue at, is_not_wrong value) ∷ []
 
 -- of a field that has to be there
 abbrev pub required_checks : {A : Type 0} → Spot → Found A → List Check
-required_checks at value = (MissingField at, is_absent value) ∷ (WrongValue at, is_wrong value) ∷ []
+required_checks at value = (MissingField at, is_there value) ∷ (WrongValue at, is_not_wrong value) ∷ []
 
 -- of the tables of an array, one after another
 abbrev pub row_checks : (ℕ → Members → List Check) → ℕ → List Members → List Check

@@ -1,5 +1,5 @@
 -- What a table has under a name.
-use Rattle.std.specs.Prelude.{ℕ, pos, nat_le, Bool, true, false, ◌||◌, not, if◌then◌else◌, List, [], ◌∷◌, Option, None, Some, option_and_then}
+use Rattle.std.specs.Prelude.{ℕ, pos, nat_le, Bool, true, false, ◌&&◌, if◌then◌else◌, List, [], ◌∷◌, Option, None, Some, option_and_then}
 use Rattle.std.specs.List.{list_any}
 use Rattle.std.specs.Str.{bytes_eq}
 use Rattle.toml.specs.Data.{Data, string, integer, array, table, Items, no_items, item, Members, no_members, member, get_member}
@@ -12,15 +12,17 @@ pub data Found (A : Type 0) : Type 0 where
   wrong : Found A
   given : (value : A) → Found A
 
-abbrev pub is_absent : {A : Type 0} → Found A → Bool
-is_absent absent = true
-is_absent wrong = false
-is_absent (given value) = false
+-- some value
+abbrev pub is_there : {A : Type 0} → Found A → Bool
+is_there absent = false
+is_there wrong = true
+is_there (given value) = true
 
-abbrev pub is_wrong : {A : Type 0} → Found A → Bool
-is_wrong absent = false
-is_wrong wrong = true
-is_wrong (given value) = false
+-- no value, or one of the form that is wanted
+abbrev pub is_not_wrong : {A : Type 0} → Found A → Bool
+is_not_wrong absent = true
+is_not_wrong wrong = false
+is_not_wrong (given value) = true
 
 -- the value that is given, and another where none is
 abbrev pub given_or : {A : Type 0} → A → Found A → A
@@ -40,11 +42,10 @@ read_as form (Some value) = as_found (form value)
 abbrev pub found : {A : Type 0} → (Data → Option A) → List ℕ → Members → Found A
 found form name fields = read_as form (get_member name fields)
 
--- some field has none of these names
-abbrev pub has_unknown : List (List ℕ) → Members → Bool
-has_unknown names no_members = false
-has_unknown names (member name value fields) =
-    not (list_any (bytes_eq name) names) || has_unknown names fields
+-- each field has one of these names
+abbrev pub has_only : List (List ℕ) → Members → Bool
+has_only names no_members = true
+has_only names (member name value fields) = list_any (bytes_eq name) names && has_only names fields
 
 -- ---- forms of values
 

@@ -12,7 +12,8 @@ use Rattle.qccd_machine.specs.Fault.{IsFirst}
 use Rattle.machine_text.specs.declared.fault.TextFault.{TextFault}
 use Rattle.machine_text.specs.declared.fault.TextFault.TheVariants.{NotToml, MissingField, WrongValue, UnknownField, Machine, NoMemory}
 use Rattle.machine_text.specs.Field.{Found, given, given_or}
-use Rattle.machine_text.specs.Checks.{NoneApplies, IsFirstOf, capacity_in, trap_rows, ends_in, segment_rows, time_in, time_table, junctions_in, document_checks}
+use Rattle.qccd_base.specs.FirstFailing.{NoneFails, IsFirstFailing}
+use Rattle.machine_text.specs.Checks.{capacity_in, trap_rows, ends_in, segment_rows, time_in, time_table, junctions_in, document_checks}
 
 -- the text is TOML, and this is its table
 abbrev pub IsTableOf : List ℕ → Members → Type 0
@@ -50,7 +51,7 @@ pub record Describes (fields : Members) (m : MachineData) : Type 0 where
 pub record IsDescription (text : List ℕ) (parts : MachineData) : Type 0 where
   pub fields : Members
   pub is_table : IsTableOf text fields
-  pub none_wrong : NoneApplies (document_checks fields)
+  pub none_wrong : NoneFails (document_checks fields)
   pub describes : Describes fields parts
 
 -- the text is that of a machine: the parts that it describes make one
@@ -64,11 +65,11 @@ pub record IsRefusedParts (text : List ℕ) (fault : MachineFault) : Type 0 wher
   pub description : IsDescription text parts
   pub first : IsFirst parts fault
 
--- the text is refused for a field: this is the first check of its table that applies
+-- the text is refused for a field: this is the first check of its table that fails
 pub record IsRefusedField (text : List ℕ) (fault : TextFault) : Type 0 where
   pub fields : Members
   pub is_table : IsTableOf text fields
-  pub first : IsFirstOf (document_checks fields) fault
+  pub first : IsFirstFailing (document_checks fields) fault
 
 -- the text is refused for this
 abbrev pub IsRefusalOf : List ℕ → TextFault → Type 0

@@ -4,9 +4,10 @@ ghost use Rattle.std.specs.Prelude.{◌≡◌, ◌≢◌, None, Some, option_map
 ghost use Rattle.toml.specs.Data.{get_member};
 ghost use Rattle.toml.specs.View.{view, table_view};
 ghost use Rattle.machine_text.specs.declared.fault.TextFault.TheVariants as fault;
-ghost use Rattle.machine_text.specs.Checks.{NoneApplies, IsFirstOf, known_checks};
+ghost use Rattle.qccd_base.specs.FirstFailing.{NoneFails, IsFirstFailing};
+ghost use Rattle.machine_text.specs.Checks.{known_checks};
 ghost use Rattle.machine_text.specs.Texts.{texts_of, tables_of};
-ghost use Rattle.machine_text.specs.Field.{has_unknown, whole_number, time_number, place_in, tables_in};
+ghost use Rattle.machine_text.specs.Field.{has_only, whole_number, time_number, place_in, tables_in};
 ghost use Rattle.std.specs.List.{list_any};
 ghost use Rattle.std.specs.Str.{bytes_eq};
 
@@ -16,11 +17,11 @@ use qccd_machine::Place;
 use std::alloc::{AllocError, Global};
 use toml::{Table, Value};
 
-/// Whether some field of the table has none of these names.
-pub(crate) fn has_unknown(table: &Table, names: &[&str]) -> bool
-    ensures { result ≡ has_unknown (texts_of names.now) (table_view table.now) }
+/// Whether each field of the table has one of these names.
+fn has_only(table: &Table, names: &[&str]) -> bool
+    ensures { result ≡ has_only (texts_of names.now) (table_view table.now) }
 {
-    table.keys().any(|name| !is_among(name.as_str(), names))
+    table.keys().all(|name| is_among(name.as_str(), names))
 }
 
 /// Whether the name is one of these.
@@ -32,15 +33,15 @@ fn is_among(name: &str, names: &[&str]) -> bool
 
 /// That each field of the table has one of these names.
 pub(crate) fn known_fields(table: &Table, names: &[&str], spot: Spot) -> Result<(), TextFault>
-    ensures ok { OnOk result (NoneApplies
+    ensures ok { OnOk result (NoneFails
         (known_checks spot (texts_of names.now) (table_view table.now))) }
-    ensures refused { IfErr result (IsFirstOf
+    ensures refused { IfErr result (IsFirstFailing
         (known_checks spot (texts_of names.now) (table_view table.now))) }
 {
-    if has_unknown(table, names) {
-        Err(TextFault::UnknownField { spot })
-    } else {
+    if has_only(table, names) {
         Ok(())
+    } else {
+        Err(TextFault::UnknownField { spot })
     }
 }
 

@@ -2,7 +2,8 @@
 
 ghost use Rattle.std.specs.Prelude.{◌≡◌, map, IfOk, OnOk, IfErr};
 ghost use Rattle.toml.specs.View.{table_view};
-ghost use Rattle.machine_text.specs.Checks.{NoneApplies, IsFirstOf, IsFirstOrNoMemory, required_checks, row_checks, capacity_in, trap_checks, trap_rows, all_trap_checks, ends_in, segment_checks, segment_rows, all_segment_checks, time_in, time_check, time_table, time_table_checks, all_time_checks, junctions_in, junction_checks, document_checks};
+ghost use Rattle.qccd_base.specs.FirstFailing.{NoneFails, IsFirstFailing};
+ghost use Rattle.machine_text.specs.Checks.{IsFirstOrNoMemory, required_checks, row_checks, capacity_in, trap_checks, trap_rows, all_trap_checks, ends_in, segment_checks, segment_rows, all_segment_checks, time_in, time_check, time_table, time_table_checks, all_time_checks, junctions_in, junction_checks, document_checks};
 ghost use Rattle.machine_text.specs.Field.{found, given, given_or, place_in};
 ghost use Rattle.machine_text.specs.Machine.{given_ends, described_times, Describes};
 ghost use Rattle.qccd_machine.specs.Fault.{data_of};
@@ -17,9 +18,9 @@ use toml::Table;
 
 /// The capacity of the trap with this number, whose table this is.
 fn trap(table: &Table, row: u64) -> Result<u64, TextFault>
-    ensures passed { OnOk result (NoneApplies (trap_checks row (table_view table.now))) }
+    ensures passed { OnOk result (NoneFails (trap_checks row (table_view table.now))) }
     ensures capacity { IfOk result (λ n. capacity_in (table_view table.now) ≡ given n) }
-    ensures refused { IfErr result (IsFirstOf (trap_checks row (table_view table.now))) }
+    ensures refused { IfErr result (IsFirstFailing (trap_checks row (table_view table.now))) }
 {
     known_fields(table, &["capacity"], Part::Trap.at(row))?;
     let spot = Part::Capacity.at(row);
@@ -30,7 +31,7 @@ fn trap(table: &Table, row: u64) -> Result<u64, TextFault>
 /// The place of an end of a segment, whose table this is.
 fn end(table: &Table, name: &str, spot: Spot) -> Result<Place, TextFault>
     ensures place { IfOk result (λ p. found place_in name.now (table_view table.now) ≡ given p) }
-    ensures refused { IfErr result (IsFirstOf
+    ensures refused { IfErr result (IsFirstFailing
         (required_checks spot (found place_in name.now (table_view table.now)))) }
 {
     let value = required(table, name, spot)?;
@@ -39,9 +40,9 @@ fn end(table: &Table, name: &str, spot: Spot) -> Result<Place, TextFault>
 
 /// The ends of the segment with this number, whose table this is.
 fn segment(table: &Table, row: u64) -> Result<(Place, Place), TextFault>
-    ensures passed { OnOk result (NoneApplies (segment_checks row (table_view table.now))) }
+    ensures passed { OnOk result (NoneFails (segment_checks row (table_view table.now))) }
     ensures ends { IfOk result (λ p. ends_in (table_view table.now) ≡ given_ends p) }
-    ensures refused { IfErr result (IsFirstOf (segment_checks row (table_view table.now))) }
+    ensures refused { IfErr result (IsFirstFailing (segment_checks row (table_view table.now))) }
 {
     known_fields(table, &["a", "b"], Part::Segment.at(row))?;
     let a = end(table, "a", Part::EndA.at(row))?;
@@ -51,9 +52,9 @@ fn segment(table: &Table, row: u64) -> Result<(Place, Place), TextFault>
 
 /// The time that the table gives for the field of `Times` at this place, or the usual one.
 fn time(table: &Table, place: u8, usual: u32) -> Result<u32, TextFault>
-    ensures passed { OnOk result (NoneApplies (time_check (table_view table.now) place)) }
+    ensures passed { OnOk result (NoneFails (time_check (table_view table.now) place)) }
     ensures value { IfOk result (λ t. given_or usual (time_in place (table_view table.now)) ≡ t) }
-    ensures refused { IfErr result (IsFirstOf (time_check (table_view table.now) place)) }
+    ensures refused { IfErr result (IsFirstFailing (time_check (table_view table.now) place)) }
 {
     let spot = Part::TimeField(place).at(0);
     match field(table, time_name(place)) {
@@ -64,9 +65,9 @@ fn time(table: &Table, place: u8, usual: u32) -> Result<u32, TextFault>
 
 /// How many junctions there are.
 fn junctions(table: &Table) -> Result<u64, TextFault>
-    ensures passed { OnOk result (NoneApplies (junction_checks (table_view table.now))) }
+    ensures passed { OnOk result (NoneFails (junction_checks (table_view table.now))) }
     ensures count { IfOk result (λ n. given_or 0 (junctions_in (table_view table.now)) ≡ n) }
-    ensures refused { IfErr result (IsFirstOf (junction_checks (table_view table.now))) }
+    ensures refused { IfErr result (IsFirstFailing (junction_checks (table_view table.now))) }
 {
     let spot = Part::Junctions.at(0);
     match field(table, "junctions") {
@@ -77,7 +78,7 @@ fn junctions(table: &Table) -> Result<u64, TextFault>
 
 /// The capacities of the traps whose tables these are.
 fn capacities(alloc: Global, rows: &[&Table]) -> Result<Vec<u64>, TextFault>
-    ensures passed { OnOk result (NoneApplies (row_checks trap_checks 0 (tables_of rows.now))) }
+    ensures passed { OnOk result (NoneFails (row_checks trap_checks 0 (tables_of rows.now))) }
     ensures capacities { IfOk result
         (λ v. map capacity_in (tables_of rows.now) ≡ map given v.items) }
     ensures refused { IfErr result (IsFirstOrNoMemory (row_checks trap_checks 0 (tables_of rows.now))) }
@@ -91,7 +92,7 @@ fn capacities(alloc: Global, rows: &[&Table]) -> Result<Vec<u64>, TextFault>
 
 /// The ends of the segments whose tables these are.
 fn ends(alloc: Global, rows: &[&Table]) -> Result<Vec<(Place, Place)>, TextFault>
-    ensures passed { OnOk result (NoneApplies (row_checks segment_checks 0 (tables_of rows.now))) }
+    ensures passed { OnOk result (NoneFails (row_checks segment_checks 0 (tables_of rows.now))) }
     ensures ends { IfOk result (λ v. map ends_in (tables_of rows.now) ≡ map given_ends v.items) }
     ensures refused { IfErr result (IsFirstOrNoMemory (row_checks segment_checks 0 (tables_of rows.now))) }
 {
@@ -104,7 +105,7 @@ fn ends(alloc: Global, rows: &[&Table]) -> Result<Vec<(Place, Place)>, TextFault
 
 /// The capacities of all traps.
 fn traps(alloc: Global, table: &Table) -> Result<Vec<u64>, TextFault>
-    ensures passed { OnOk result (NoneApplies (all_trap_checks (table_view table.now))) }
+    ensures passed { OnOk result (NoneFails (all_trap_checks (table_view table.now))) }
     ensures capacities { IfOk result
         (λ v. map capacity_in (trap_rows (table_view table.now)) ≡ map given v.items) }
     ensures refused { IfErr result (IsFirstOrNoMemory (all_trap_checks (table_view table.now))) }
@@ -117,7 +118,7 @@ fn traps(alloc: Global, table: &Table) -> Result<Vec<u64>, TextFault>
 
 /// The ends of all segments.
 fn segments(alloc: Global, table: &Table) -> Result<Vec<(Place, Place)>, TextFault>
-    ensures passed { OnOk result (NoneApplies (all_segment_checks (table_view table.now))) }
+    ensures passed { OnOk result (NoneFails (all_segment_checks (table_view table.now))) }
     ensures ends { IfOk result
         (λ v. map ends_in (segment_rows (table_view table.now)) ≡ map given_ends v.items) }
     ensures refused { IfErr result (IsFirstOrNoMemory (all_segment_checks (table_view table.now))) }
@@ -132,9 +133,9 @@ fn segments(alloc: Global, table: &Table) -> Result<Vec<(Place, Place)>, TextFau
 
 /// The times, where this is the table of those that are given.
 fn given_times(table: &Table) -> Result<Times, TextFault>
-    ensures passed { OnOk result (NoneApplies (time_table_checks (table_view table.now))) }
+    ensures passed { OnOk result (NoneFails (time_table_checks (table_view table.now))) }
     ensures times { IfOk result (λ t. described_times (table_view table.now) ≡ t) }
-    ensures refused { IfErr result (IsFirstOf (time_table_checks (table_view table.now))) }
+    ensures refused { IfErr result (IsFirstFailing (time_table_checks (table_view table.now))) }
 {
     known_fields(table, &TIME_NAMES, Part::Time.at(0))?;
     let usual = Times::usual();
@@ -156,9 +157,9 @@ fn given_times(table: &Table) -> Result<Times, TextFault>
 
 /// All times.
 fn times(table: &Table) -> Result<Times, TextFault>
-    ensures passed { OnOk result (NoneApplies (all_time_checks (table_view table.now))) }
+    ensures passed { OnOk result (NoneFails (all_time_checks (table_view table.now))) }
     ensures times { IfOk result (λ t. described_times (time_table (table_view table.now)) ≡ t) }
-    ensures refused { IfErr result (IsFirstOf (all_time_checks (table_view table.now))) }
+    ensures refused { IfErr result (IsFirstFailing (all_time_checks (table_view table.now))) }
 {
     let spot = Part::Time.at(0);
     let Some(value) = field(table, "time") else {
@@ -172,7 +173,7 @@ fn times(table: &Table) -> Result<Times, TextFault>
 
 /// The parts that the table of a document describes.
 pub(crate) fn parts(alloc: Global, table: &Table) -> Result<Parts, TextFault>
-    ensures passed { OnOk result (NoneApplies (document_checks (table_view table.now))) }
+    ensures passed { OnOk result (NoneFails (document_checks (table_view table.now))) }
     ensures described { IfOk result (λ p. Describes (table_view table.now) (data_of p)) }
     ensures refused { IfErr result (IsFirstOrNoMemory (document_checks (table_view table.now))) }
 {

@@ -16,6 +16,12 @@ first_failing-at [] back cause first = cc
 first_failing-at ((other, true) ∷ front) back cause first = first_failing-at front back cause first
 first_failing-at ((other, false) ∷ front) back cause first = first
 
+-- where none of all fails, none of the front does, and none of the rest
+pub first_failing-split : {A : Type 0} (front back : List (A × Bool)) → NoneFails (front ++ back) → NoneFails front × NoneFails back
+first_failing-split [] back none = (refl, none)
+first_failing-split ((cause, true) ∷ front) back none = first_failing-split front back none
+first_failing-split ((cause, false) ∷ front) back none = cc
+
 -- there is one first cause at most
 pub one_first_failing : {A : Type 0} (tests : List (A × Bool)) (cause other : A) → IsFirstFailing tests cause → IsFirstFailing tests other → cause ≡ other
 one_first_failing tests cause other first second = same_Some cause other (sym first ∙ second)

@@ -10,7 +10,8 @@ use Rattle.qccd_machine.specs.declared.fault.PartKind.TheVariants.{Traps, Segmen
 use Rattle.qccd_machine.specs.declared.fault.MachineFault.{MachineFault}
 use Rattle.qccd_machine.specs.declared.fault.MachineFault.TheVariants.{NoTrap, TooMany, Capacity, EndTaken, BadEnd, SelfJoined, JunctionDegree, NotConnected, TableRange, NoMemory}
 use Rattle.qccd_machine.specs.Machine.{MachineData, IsValid, IsThere, ends_at, same_place, site}
-use Rattle.qccd_machine.specs.Fault.{Applies, Turn, turn_of, IsEarlier, IsFirst, TakesEnd}
+use Rattle.qccd_machine.specs.Fault.{Applies, Turn, turn_of, IsEarlier, ComesBefore, IsFirst, TakesEnd}
+use Rattle.qccd_base.proofs.FirstFailing.{one_first_to_apply}
 use Rattle.qccd_machine.proofs.Counts.{HasOne, count_at_least_two}
 use Rattle.qccd_machine.proofs.SamePlace.{same_place-refl}
 use Rattle.qccd_machine.proofs.Turns.{named, named-turn_of}
@@ -75,11 +76,15 @@ same_turn a b h k =
     let questions : a.question ≡ b.question = grind arith in
     (checks, parts, questions)
 
-pub one_first : (m : MachineData) (fault other : MachineFault) → IsFirst m fault → IsFirst m other → fault ≡ other
-one_first m fault other first second =
-    let same = same_turn (turn_of fault) (turn_of other) (λ e. second.none_earlier fault e first.applies) (λ e. first.none_earlier other e second.applies) in
+-- of two faults neither of which is told before the other
+same_fault : (fault other : MachineFault) → (ComesBefore fault other → ⊥) → (ComesBefore other fault → ⊥) → fault ≡ other
+same_fault fault other h k =
+    let same = same_turn (turn_of fault) (turn_of other) h k in
     sym (named-turn_of fault)
     ∙ ap (λ n. named n (turn_of fault).part (turn_of fault).question) same.0
     ∙ ap (λ n. named (turn_of other).check n (turn_of fault).question) same.1
     ∙ ap (λ n. named (turn_of other).check (turn_of other).part n) same.2
     ∙ named-turn_of other
+
+pub one_first : (m : MachineData) (fault other : MachineFault) → IsFirst m fault → IsFirst m other → fault ≡ other
+one_first m fault other first second = one_first_to_apply (Applies m) ComesBefore same_fault fault other first second

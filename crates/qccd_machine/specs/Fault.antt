@@ -1,6 +1,7 @@
 -- Why parts make no machine.
 use Rattle.std.specs.Prelude.{◌≡◌, ℕ, ◌<◌, ◌⊎◌, length, Some, slice_get}
 use Rattle.qccd_base.specs.declared.names.Res.TheVariants as res
+use Rattle.qccd_base.specs.FirstFailing.{IsFirstToApply}
 use Rattle.qccd_base.specs.Times.{times_of}
 use Rattle.qccd_machine.specs.declared.place.Place.{Place}
 use Rattle.qccd_machine.specs.declared.place.Place.TheVariants.{TrapEnd, Junction}
@@ -82,7 +83,10 @@ abbrev pub IsEarlier : Turn → Turn → Type 0
 IsEarlier a b = (a.check < b.check)
     ⊎ ((a.check ≡ b.check) × ((a.part < b.part) ⊎ ((a.part ≡ b.part) × (a.question < b.question))))
 
+-- a fault is told before another
+abbrev pub ComesBefore : MachineFault → MachineFault → Type 0
+ComesBefore fault other = IsEarlier (turn_of fault) (turn_of other)
+
 -- the fault is the first that applies
-pub record IsFirst (m : MachineData) (fault : MachineFault) : Type 0 where
-  pub applies : Applies m fault
-  pub none_earlier : (other : MachineFault) → IsEarlier (turn_of other) (turn_of fault) → Applies m other → ⊥
+abbrev pub IsFirst : MachineData → MachineFault → Type 0
+IsFirst m fault = IsFirstToApply (Applies m) ComesBefore fault
