@@ -52,24 +52,19 @@ impl Part {
 /// fields in the order in which `Part` has them, with those of one trap or segment before those of
 /// the next and an unknown field of a table before its other fields, and at last the parts.
 #[derive(Clone, Copy, Debug, PartialEq, Eq, Error)]
+#[error("{}", self.text())]
 pub enum TextFault {
     /// The text is no TOML.
-    #[error("not TOML")]
     NotToml,
     /// A field that has to be there is not.
-    #[error("{spot:?} is missing")]
     MissingField { spot: Spot },
     /// A field's value is of another type or form than is wanted, or out of range.
-    #[error("{spot:?} has a wrong value")]
     WrongValue { spot: Spot },
     /// The table has a field that no such table has.
-    #[error("unknown field in {spot:?}")]
     UnknownField { spot: Spot },
     /// The parts make no machine.
-    #[error("{0}")]
     Machine(MachineFault),
     /// Memory ran out.
-    #[error("no memory")]
     NoMemory,
 }
 

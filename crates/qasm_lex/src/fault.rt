@@ -13,7 +13,7 @@ pub enum LexFault {
     #[error("the string at byte {at} is not closed on its line")]
     OpenString { at: u32 },
     /// Memory ran out.
-    #[error("memory ran out")]
+    #[error("no memory")]
     NoMemory,
 }
 

@@ -19,36 +19,27 @@ pub enum PartKind {
 /// but for those of segments: each segment in turn is looked at for an end that is not there, then
 /// for being joined to itself, then for an end that is taken.
 #[derive(Clone, Copy, Debug, PartialEq, Eq, Error)]
+#[error("{}", self.text())]
 pub enum MachineFault {
     /// There is no trap.
-    #[error("no trap")]
     NoTrap,
     /// There are more than 32 traps, or more than 128 segments, or more than 64 junctions.
-    #[error("too many of {what:?}")]
     TooMany { what: PartKind },
     /// The first trap whose capacity is outside 2 to 32.
-    #[error("trap {} has a capacity outside 2 to 32", trap.0)]
     Capacity { trap: TrapId },
     /// The segment shares an end of a trap with an earlier one.
-    #[error("segment {} takes an end that is taken", seg.0)]
     EndTaken { seg: SegId },
     /// An end of the segment is at a trap or a junction that is not there.
-    #[error("segment {} names a missing place", seg.0)]
     BadEnd { seg: SegId },
     /// Both ends of the segment are at one trap or at one junction.
-    #[error("segment {} joins a place to itself", seg.0)]
     SelfJoined { seg: SegId },
     /// The first junction that does not join 2 to 4 ends of segments.
-    #[error("junction {} does not join 2 to 4 segments", junc.0)]
     JunctionDegree { junc: JuncId },
     /// The first trap, else the first junction, to which no path leads from trap 0.
-    #[error("{place:?} is out of reach")]
     NotConnected { place: Res },
     /// The first time above 1,000,000, by its place among the fields of `Times`, counted from 0.
-    #[error("time {field} is above 1000000")]
     TableRange { field: u8 },
     /// Memory ran out.
-    #[error("no memory")]
     NoMemory,
 }
 
