@@ -9,7 +9,7 @@ mod parts;
 mod place;
 mod reader;
 #[cfg(test)]
-mod reader_tests;
+mod tests;
 pub mod worked;
 
 pub use fault::{Part, Spot, TextFault};

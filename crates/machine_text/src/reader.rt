@@ -1,3 +1,5 @@
+//! From the text of a file to its machine.
+
 ghost use Rattle.std.specs.Prelude.{◌≡◌, ◌≢◌, IfOk, IfErr};
 ghost use Rattle.toml.specs.View.{table_view};
 ghost use Rattle.machine_text.specs.declared.fault.TextFault.TheVariants as fault;

@@ -3,7 +3,7 @@
 
 mod fault;
 mod gaps;
-mod laws;
+pub mod laws;
 mod lexing;
 mod longest;
 mod numbers;
@@ -13,6 +13,5 @@ mod tests;
 mod tokens;
 
 pub use fault::LexFault;
-pub use laws::{one_answer, open_string};
 pub use lexing::lex;
 pub use tokens::{Token, TokenKind};

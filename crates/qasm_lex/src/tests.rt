@@ -3,6 +3,7 @@
 use crate::{LexFault, TokenKind, lex};
 use std::alloc::Global;
 use std::process::Abort;
+use std::test::Fail;
 
 // A sign is shown as it is written, another kind by a letter.
 fn mark(kind: TokenKind) -> &'static str {
@@ -155,4 +156,19 @@ fn gaps_and_strings(rt: HostRuntime) {
         (b"\"a\"\"", "the string at byte 3 is not closed on its line"),
     ];
     compare(&rt, rt.alloc(), &rows);
+}
+
+// A gate on a line, as often as makes more than a million bytes: nine tokens each.
+#[test]
+fn a_long_text(rt: HostRuntime) -> Result<(), Fail> {
+    let line = b"cx q[0],q[1]; // next\n";
+    let mut text = Vec::new(rt.alloc());
+    for _ in 0..50_000 {
+        text.extend_from_slice(line)?;
+    }
+    assert!(rt; text.len() <= 16777216);
+    assert_eq!(rt; text.len(), 1_100_000);
+    let tokens = lex(rt.alloc(), text.as_slice()).expect(&rt, "tokens");
+    assert_eq!(rt; tokens.len(), 550_000);
+    Ok(())
 }

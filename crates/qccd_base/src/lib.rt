@@ -6,6 +6,8 @@ mod lists;
 mod names;
 mod numbers;
 mod short_texts;
+#[cfg(test)]
+mod tests;
 mod times;
 
 pub use lists::{BitList, IonList, PosList, QubitList, TrapList};

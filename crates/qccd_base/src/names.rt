@@ -1,3 +1,5 @@
+//! What is numbered, and what an operation holds.
+
 use std::alloc::{AllocError, AllocFailed};
 
 /// An ion of the machine, numbered from 0.

@@ -1,3 +1,5 @@
+//! How long the steps of a machine take.
+
 ghost use Rattle.std.specs.Prelude.{◌≡◌};
 ghost use Rattle.qccd_base.specs.Times.{usual};
 

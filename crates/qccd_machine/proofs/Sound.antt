@@ -10,7 +10,7 @@ use Rattle.qccd_machine.specs.declared.fault.PartKind.TheVariants.{Traps, Segmen
 use Rattle.qccd_machine.specs.declared.fault.MachineFault.{MachineFault}
 use Rattle.qccd_machine.specs.declared.fault.MachineFault.TheVariants.{NoTrap, TooMany, Capacity, EndTaken, BadEnd, SelfJoined, JunctionDegree, NotConnected, TableRange, NoMemory}
 use Rattle.qccd_machine.specs.Machine.{MachineData, IsValid, IsThere, ends_at, same_place, site}
-use Rattle.qccd_machine.specs.Fault.{Applies, Turn, turn_of, IsEarlier, ComesBefore, IsFirst, TakesEnd}
+use Rattle.qccd_machine.specs.Fault.{Applies, Turn, turn_of, IsEarlier, IsToldBefore, IsFirst, TakesEnd}
 use Rattle.qccd_base.proofs.FirstFailing.{one_first_to_apply}
 use Rattle.qccd_machine.proofs.Counts.{HasOne, count_at_least_two}
 use Rattle.qccd_machine.proofs.SamePlace.{same_place-refl}
@@ -77,7 +77,7 @@ same_turn a b h k =
     (checks, parts, questions)
 
 -- of two faults neither of which is told before the other
-same_fault : (fault other : MachineFault) → (ComesBefore fault other → ⊥) → (ComesBefore other fault → ⊥) → fault ≡ other
+same_fault : (fault other : MachineFault) → (IsToldBefore fault other → ⊥) → (IsToldBefore other fault → ⊥) → fault ≡ other
 same_fault fault other h k =
     let same = same_turn (turn_of fault) (turn_of other) h k in
     sym (named-turn_of fault)
@@ -87,4 +87,4 @@ same_fault fault other h k =
     ∙ named-turn_of other
 
 pub one_first : (m : MachineData) (fault other : MachineFault) → IsFirst m fault → IsFirst m other → fault ≡ other
-one_first m fault other first second = one_first_to_apply (Applies m) ComesBefore same_fault fault other first second
+one_first m fault other first second = one_first_to_apply (Applies m) IsToldBefore same_fault fault other first second

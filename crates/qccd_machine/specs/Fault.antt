@@ -84,9 +84,9 @@ IsEarlier a b = (a.check < b.check)
     ⊎ ((a.check ≡ b.check) × ((a.part < b.part) ⊎ ((a.part ≡ b.part) × (a.question < b.question))))
 
 -- a fault is told before another
-abbrev pub ComesBefore : MachineFault → MachineFault → Type 0
-ComesBefore fault other = IsEarlier (turn_of fault) (turn_of other)
+abbrev pub IsToldBefore : MachineFault → MachineFault → Type 0
+IsToldBefore fault other = IsEarlier (turn_of fault) (turn_of other)
 
 -- the fault is the first that applies
 abbrev pub IsFirst : MachineData → MachineFault → Type 0
-IsFirst m fault = IsFirstToApply (Applies m) ComesBefore fault
+IsFirst m fault = IsFirstToApply (Applies m) IsToldBefore fault

@@ -66,6 +66,3 @@ fn whole(text: &str) -> ArrayString<64>
 {
     joined(text, "", "")
 }
-
-#[cfg(test)]
-mod tests;

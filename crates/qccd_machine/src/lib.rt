@@ -11,7 +11,6 @@ mod names;
 mod parts;
 mod place;
 mod preset;
-pub mod preset_laws;
 mod reach;
 #[cfg(test)]
 mod tests;

@@ -1,3 +1,5 @@
+//! Machines, and what they answer.
+
 ghost use Rattle.std.specs.Prelude.{◌≡◌, ◌≢◌, ◌<◌, ◌≤◌, ℕ, All, IfErr, IfOk, IfNone, IfSome, OnOk, length, slice_get};
 ghost use Rattle.qccd_base.specs.Greatest.{greatest};
 ghost use Rattle.qccd_base.specs.declared.names.SegId.{SegId};

@@ -1,3 +1,5 @@
+//! What a machine is built from.
+
 use crate::place::Place;
 use qccd_base::Times;
 

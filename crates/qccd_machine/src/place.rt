@@ -1,3 +1,5 @@
+//! Where ends of segments are, and which machines have names.
+
 use qccd_base::{End, JuncId, TrapId};
 
 /// Where an end of a segment is: at an end of a trap, or at a junction.

@@ -65,6 +65,3 @@ fn machine_of(
     let segments = Vec::from_slice(alloc, segments)?;
     Ok(Machine::of_valid(capacities, junctions, segments, Times::usual()))
 }
-
-#[cfg(test)]
-mod tests;

@@ -1,5 +1,8 @@
 //! Which fault is told of small parts, alone and of several at once, and machines that are built.
 
+mod fault_texts;
+mod presets;
+
 use super::*;
 use qccd_base::{End, JuncId, Res, SegId, Times, TrapId};
 use std::alloc::{AllocError, Global};

@@ -7,11 +7,12 @@ ghost use Rattle.qccd_base.specs.declared.names.Res.TheVariants as res;
 ghost use Rattle.qccd_base.specs.declared.names.TrapId.{TrapId};
 ghost use Rattle.qccd_machine.specs.declared.fault.MachineFault.TheVariants as fault;
 ghost use Rattle.qccd_machine.specs.declared.fault.PartKind.TheVariants as part;
-ghost use Rattle.qccd_machine.specs.Fault.{Applies, IsEarlier, IsFirst, turn_of};
+ghost use Rattle.qccd_machine.specs.declared.place.Preset.{Preset};
+ghost use Rattle.qccd_machine.specs.Fault.{Applies, IsFirst, IsToldBefore};
 ghost use Rattle.qccd_machine.specs.Faulty.{two_traps};
 ghost use Rattle.qccd_machine.specs.Machine.{IsReached, IsValid, degree_of, slots_of, worst_of};
 ghost use Rattle.qccd_machine.specs.Line.{line, stray};
-ghost use Rattle.qccd_machine.specs.Preset.{at_junction, at_left, at_right};
+ghost use Rattle.qccd_machine.specs.Preset.{at_junction, at_left, at_right, preset_of};
 
 /// A line of 32 traps that hold two ions each takes 63 qubits, and the bound that is stated for the
 /// operations of one item is 3,969.
@@ -64,16 +65,40 @@ pub fn paths()
 /// an end is taken; an earlier segment stands before a later one, and each trap out of reach before each
 /// junction.
 pub fn first_told()
-    ensures missing { (s : ℕ) → IsEarlier (turn_of (fault.BadEnd (segment s))) (turn_of (fault.SelfJoined (segment s))) }
-    ensures joined { (s : ℕ) → IsEarlier (turn_of (fault.SelfJoined (segment s))) (turn_of (fault.EndTaken (segment s))) }
-    ensures segments { (s u : ℕ) → s < u → IsEarlier (turn_of (fault.EndTaken (segment s))) (turn_of (fault.BadEnd (segment u))) }
-    ensures counts { IsEarlier (turn_of fault.NoTrap) (turn_of (fault.TooMany part.Traps)) }
-    ensures many { IsEarlier (turn_of (fault.TooMany part.Traps)) (turn_of (fault.TooMany part.Segments)) }
-    ensures more { IsEarlier (turn_of (fault.TooMany part.Segments)) (turn_of (fault.TooMany part.Junctions)) }
-    ensures capacities { (t : TrapId) → IsEarlier (turn_of (fault.TooMany part.Junctions)) (turn_of (fault.Capacity t)) }
-    ensures ends { (t : TrapId) (s : ℕ) → IsEarlier (turn_of (fault.Capacity t)) (turn_of (fault.BadEnd (segment s))) }
-    ensures degrees { (s : ℕ) (j : JuncId) → IsEarlier (turn_of (fault.EndTaken (segment s))) (turn_of (fault.JunctionDegree j)) }
-    ensures reach { (j : JuncId) (t : TrapId) → IsEarlier (turn_of (fault.JunctionDegree j)) (turn_of (fault.NotConnected (res.Trap t))) }
-    ensures times { (j : JuncId) (field : ℕ) → IsEarlier (turn_of (fault.NotConnected (res.Junc j))) (turn_of (fault.TableRange field)) }
-    ensures traps { (t : TrapId) (j : JuncId) → IsEarlier (turn_of (fault.NotConnected (res.Trap t))) (turn_of (fault.NotConnected (res.Junc j))) }
+    ensures missing { (s : ℕ) → IsToldBefore (fault.BadEnd (segment s)) (fault.SelfJoined (segment s)) }
+    ensures joined { (s : ℕ) → IsToldBefore (fault.SelfJoined (segment s)) (fault.EndTaken (segment s)) }
+    ensures segments { (s u : ℕ) → s < u → IsToldBefore (fault.EndTaken (segment s)) (fault.BadEnd (segment u)) }
+    ensures counts { IsToldBefore fault.NoTrap (fault.TooMany part.Traps) }
+    ensures many { IsToldBefore (fault.TooMany part.Traps) (fault.TooMany part.Segments) }
+    ensures more { IsToldBefore (fault.TooMany part.Segments) (fault.TooMany part.Junctions) }
+    ensures capacities { (t : TrapId) → IsToldBefore (fault.TooMany part.Junctions) (fault.Capacity t) }
+    ensures ends { (t : TrapId) (s : ℕ) → IsToldBefore (fault.Capacity t) (fault.BadEnd (segment s)) }
+    ensures degrees { (s : ℕ) (j : JuncId) → IsToldBefore (fault.EndTaken (segment s)) (fault.JunctionDegree j) }
+    ensures reach { (j : JuncId) (t : TrapId) → IsToldBefore (fault.JunctionDegree j) (fault.NotConnected (res.Trap t)) }
+    ensures times { (j : JuncId) (field : ℕ) → IsToldBefore (fault.NotConnected (res.Junc j)) (fault.TableRange field) }
+    ensures traps { (t : TrapId) (j : JuncId) → IsToldBefore (fault.NotConnected (res.Trap t)) (fault.NotConnected (res.Junc j)) }
+{}
+
+/// How many qubits the machines that are known by name take at most.
+pub fn preset_slots()
+    ensures line { slots_of (preset_of Preset.L6 16) ≡ 95 }
+    ensures line_of_pairs { slots_of (preset_of Preset.L6 2) ≡ 11 }
+    ensures two_rows { slots_of (preset_of Preset.G2x3 16) ≡ 95 }
+    ensures single { slots_of (preset_of Preset.Single 16) ≡ 16 }
+{}
+
+/// The bounds that are stated for the operations of one item: 30 ordered pairs of traps in the line and
+/// in the two rows, with 18 or 30 operations for each, and the item.
+pub fn preset_worst()
+    ensures line { worst_of (preset_of Preset.L6 16) ≡ 541 }
+    ensures two_rows { worst_of (preset_of Preset.G2x3 16) ≡ 901 }
+    ensures single { worst_of (preset_of Preset.Single 16) ≡ 1 }
+{}
+
+/// Each junction of the two rows joins three segments.
+pub fn preset_degrees()
+    ensures first { degree_of (preset_of Preset.G2x3 16) 0 ≡ 3 }
+    ensures second { degree_of (preset_of Preset.G2x3 16) 1 ≡ 3 }
+    ensures third { degree_of (preset_of Preset.G2x3 16) 2 ≡ 3 }
+    ensures fourth { degree_of (preset_of Preset.G2x3 16) 3 ≡ 3 }
 {}

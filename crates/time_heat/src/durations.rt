@@ -35,33 +35,3 @@ fn gate_duration(times: &Times, ions: u8) -> u64
 {
     u64::from(times.gate2) + u64::from(times.between) * u64::from(ions)
 }
-
-#[cfg(test)]
-mod tests {
-    use super::*;
-
-    #[test]
-    fn usual_durations(rt: HostRuntime) {
-        let times = Times::usual();
-        let cases = [
-            (Work::Split, 80),
-            (Work::Merge, 80),
-            (Work::Move, 5),
-            (Work::Cross(2), 50),
-            (Work::Cross(3), 50),
-            (Work::Cross(4), 60),
-            (Work::Rot, 200),
-            (Work::Gate1, 5),
-            (Work::Measure, 100),
-            (Work::Reset, 100),
-            (Work::Gate2(0), 100),
-            (Work::Gate2(3), 130),
-            (Work::GSwap(0), 300),
-            (Work::GSwap(3), 390),
-            (Work::Fence, 0),
-        ];
-        for (work, microseconds) in cases {
-            assert_eq!(rt; duration(&times, work), microseconds, "{work:?}");
-        }
-    }
-}

@@ -48,18 +48,3 @@ pub fn enter_heat(ion: u64) -> u64
 {
     ion + 50
 }
-
-#[cfg(test)]
-mod tests {
-    use super::*;
-
-    #[test]
-    fn heats(rt: HostRuntime) {
-        assert_eq!(rt; split_heat(400, 3), (233, 367));
-        assert_eq!(rt; split_heat(0, 1), (100, 100));
-        assert_eq!(rt; merge_heat(367, 233), 700);
-        assert_eq!(rt; rot_heat(500), 700);
-        assert_eq!(rt; move_heat(233), 243);
-        assert_eq!(rt; enter_heat(243), 293);
-    }
-}

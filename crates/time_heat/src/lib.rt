@@ -4,6 +4,8 @@
 mod durations;
 mod heats;
 pub mod laws;
+#[cfg(test)]
+mod tests;
 mod work;
 pub mod worked;
 

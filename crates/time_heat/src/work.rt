@@ -1,3 +1,5 @@
+//! The steps of a machine.
+
 /// A step of the machine, as far as its time depends on it.
 #[derive(Clone, Copy, Debug, PartialEq, Eq, Hash)]
 pub enum Work {

@@ -1,8 +1,11 @@
-use super::*;
-use qccd_base::{Bit, JuncId, SegId, TrapId};
+//! What is told of each fault.
+
+use crate::{MachineFault, PartKind};
+use qccd_base::{Bit, JuncId, Res, SegId, TrapId};
+use std::test::Fail;
 
 #[test]
-fn one_of_each(rt: HostRuntime) {
+fn one_of_each(rt: HostRuntime) -> Result<(), Fail> {
     let texts = [
         (MachineFault::NoTrap, "no trap"),
         (
@@ -79,5 +82,8 @@ fn one_of_each(rt: HostRuntime) {
     ];
     for (fault, text) in texts {
         assert_eq!(rt; fault.text().as_str(), text);
+        let shown = format!(in rt.alloc(); "{fault}")?;
+        assert_eq!(rt; shown.as_str(), text);
     }
+    Ok(())
 }

@@ -1,6 +1,9 @@
-use super::*;
-use crate::place::Place;
-use qccd_base::{End, SegId};
+//! What the machines that are known by name answer.
+
+use crate::Place::{self, Junction, TrapEnd};
+use crate::{Machine, Preset, preset_machine};
+use qccd_base::End::{self, Left, Right};
+use qccd_base::{JuncId, SegId, Times, TrapId};
 use std::process::Abort;
 use std::test::Fail;
 

@@ -1,6 +1,9 @@
-use crate::reader::read_machine;
+//! Texts with what is told of them, worked out by hand, and machines that are read.
+
+use crate::{Part, Spot, TextFault, read_machine};
 use arrayvec::ArrayString;
 use qccd_base::Times;
+use qccd_machine::MachineFault;
 use std::alloc::{AllocError, Global};
 use std::test::Fail;
 
@@ -349,5 +352,39 @@ fn more_traps_than_a_machine_has(rt: HostRuntime) -> Result<(), Fail> {
         told(rt.alloc(), text.as_bytes()).as_str(),
         "trap 1000 capacity has a wrong value"
     );
+    Ok(())
+}
+
+#[test]
+fn shown_as_told(rt: HostRuntime) -> Result<(), Fail> {
+    let capacity = Spot {
+        part: Part::Capacity,
+        row: 2,
+    };
+    let segment = Spot {
+        part: Part::Segment,
+        row: 3,
+    };
+    let table = [
+        (TextFault::NotToml, "not TOML"),
+        (
+            TextFault::MissingField { spot: capacity },
+            "trap 2 capacity is missing",
+        ),
+        (
+            TextFault::WrongValue { spot: capacity },
+            "trap 2 capacity has a wrong value",
+        ),
+        (
+            TextFault::UnknownField { spot: segment },
+            "unknown field in segment 3",
+        ),
+        (TextFault::Machine(MachineFault::NoTrap), "no trap"),
+        (TextFault::NoMemory, "no memory"),
+    ];
+    for (fault, expected) in table {
+        let shown = format!(in rt.alloc(); "{fault}")?;
+        assert_eq!(rt; shown.as_str(), expected);
+    }
     Ok(())
 }

@@ -1,0 +1,37 @@
+//! Numbers with their texts.
+
+use crate::{number_text, read_number};
+
+#[test]
+fn writes_and_reads(rt: HostRuntime) {
+    let texts = [
+        (0, "0"),
+        (7, "7"),
+        (10, "10"),
+        (65535, "65535"),
+        (18446744073709551615, "18446744073709551615"),
+    ];
+    for (n, text) in texts {
+        assert_eq!(rt; number_text(n).as_str(), text);
+        assert_eq!(rt; read_number(text.as_bytes()), Some(n));
+    }
+}
+
+#[test]
+fn refuses(rt: HostRuntime) {
+    let others = [
+        "",
+        "00",
+        "01",
+        "+1",
+        "-1",
+        " 1",
+        "1 ",
+        "18446744073709551616",
+        "99999999999999999999",
+        "1a",
+    ];
+    for other in others {
+        assert_eq!(rt; read_number(other.as_bytes()), None, "{other}");
+    }
+}
