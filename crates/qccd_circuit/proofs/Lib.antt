@@ -1,2 +1,7 @@
 pub mod CircuitLemmas
 pub mod Ranges
+pub mod Shared
+pub mod MarkLemmas
+pub mod Rising
+pub mod OwnOrder
+pub mod Exchanging

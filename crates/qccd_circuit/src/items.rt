@@ -1,6 +1,7 @@
-ghost use Rattle.std.specs.Prelude.{◌≡◌, ◌↔◌, ◌<◌, All, IfOk, IsTrue, None};
+ghost use Rattle.std.specs.Prelude.{◌≡◌, ◌↔◌, ◌<◌, All, IfOk, IsTrue, None, get_or, length};
 ghost use Rattle.qccd_circuit.specs.Circuit.{IsWithin};
-ghost use Rattle.qccd_circuit.specs.Item.{Fits, cond_bits};
+ghost use Rattle.qccd_circuit.specs.Item.{Fits, bits_from, cond_bits};
+ghost use Rattle.qccd_circuit.specs.Operands.{operands_of};
 
 use crate::kinds::{Cond, ItemKind};
 use crate::texts::{AngleList, Name};
@@ -101,6 +102,35 @@ impl Item {
         &self.cond
     }
 
+    /// How many operands the item has: its qubits, the bits that it writes, and those that its condition
+    /// reads.
+    pub fn operand_count(&self) -> usize
+        ensures { result ≡ length (operands_of self.now) }
+    {
+        let (_, read) = read_bits(&self.cond);
+        let qubits = self.qubits.as_slice();
+        let bits = self.bits.as_slice();
+        qubits.len() + bits.len() + usize::from(read)
+    }
+
+    /// The number of an operand: twice that of a qubit, and one more than twice that of a bit.
+    pub fn operand(&self, k: usize) -> usize
+        requires { k < length (operands_of self.now) }
+        ensures { result ≡ get_or (operands_of self.now) k 0 }
+    {
+        let qubits = self.qubits.as_slice();
+        if k < qubits.len() {
+            return 2 * usize::from(qubits[k].0);
+        }
+        let k = k - qubits.len();
+        let bits = self.bits.as_slice();
+        if k < bits.len() {
+            return 2 * usize::from(bits[k].0) + 1;
+        }
+        let (first, _) = read_bits(&self.cond);
+        2 * (usize::from(first) + (k - bits.len())) + 1
+    }
+
     /// An equal item.
     pub fn copy(&self) -> Result<Item, NoMemory>
         ensures { IfOk result (λ item. item ≡ self.now) }
@@ -128,6 +158,16 @@ impl Item {
         qubits_below(self.qubits.as_slice(), qubits)
             && bits_below(self.bits.as_slice(), bits)
             && cond_below(&self.cond, bits)
+    }
+}
+
+// The first of the bits that the condition reads, and how many there are.
+fn read_bits(cond: &Option<Cond>) -> (u16, u16)
+    ensures { cond_bits cond.now ≡ bits_from result.0 result.1 }
+{
+    match cond {
+        None => (0, 0),
+        Some(cond) => (cond.first.0, cond.count),
     }
 }
 

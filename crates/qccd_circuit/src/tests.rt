@@ -62,3 +62,49 @@ fn a_circuit_of_copies(rt: HostRuntime) -> Result<(), Fail> {
     crosses_threads(&circuit);
     Ok(())
 }
+
+/// The circuit of so many qubits with a gate on each of these, or on each pair of these that differ.
+fn gates(alloc: Global, qubits: u16, on: &[(u16, u16)]) -> Result<Circuit, NoMemory> {
+    let mut circuit = Circuit::begin(alloc, qubits.min(256), 0);
+    for (a, b) in on {
+        let gate = if a == b {
+            made(alloc, ItemKind::Gate1, b"h", &[Qubit(*a)], &[])?
+        } else {
+            made(alloc, ItemKind::Gate2, b"cx", &[Qubit(*a), Qubit(*b)], &[])?
+        };
+        if let Some(item) = gate {
+            add_copy(&mut circuit, &item)?;
+        }
+    }
+    Ok(circuit)
+}
+
+#[test]
+fn three_lists(rt: HostRuntime) -> Result<(), Fail> {
+    let alloc = rt.alloc();
+    let circuit = gates(alloc, 2, &[(0, 0), (1, 1), (0, 1)])?;
+    assert_eq!(rt; circuit.items().len(), 3);
+    assert!(rt; same_order(alloc, &circuit, &[1, 0, 2])?);
+    assert!(rt; !same_order(alloc, &circuit, &[2, 0, 1])?);
+    assert!(rt; !same_order(alloc, &circuit, &[0, 1])?);
+    assert!(rt; !same_order(alloc, &circuit, &[0, 0, 2])?);
+    assert!(rt; !same_order(alloc, &circuit, &[0, 1, 3])?);
+    Ok(())
+}
+
+#[test]
+fn the_largest_list(rt: HostRuntime) -> Result<(), Fail> {
+    let alloc = rt.alloc();
+    let mut on = Vec::new(alloc);
+    let mut own = Vec::new(alloc);
+    for k in 0..65536u32 {
+        on.push(((k % 256) as u16, (k / 256) as u16))?;
+        own.push(k)?;
+    }
+    let circuit = gates(alloc, 256, on.as_slice())?;
+    assert_eq!(rt; circuit.items().len(), 65536);
+    assert!(rt; same_order(alloc, &circuit, own.as_slice())?);
+    own.reverse();
+    assert!(rt; !same_order(alloc, &circuit, own.as_slice())?);
+    Ok(())
+}
