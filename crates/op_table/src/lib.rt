@@ -5,6 +5,7 @@ mod contents;
 mod kinds;
 pub mod laws;
 mod op;
+mod touched;
 pub mod worked;
 
 pub use contents::{Carry, Content, Entry, Rider};
