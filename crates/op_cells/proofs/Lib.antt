@@ -1,0 +1,4 @@
+pub mod Mapped
+pub mod Rooms
+pub mod ShortSteps
+pub mod Wholes

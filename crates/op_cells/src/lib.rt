@@ -2,7 +2,14 @@
 #![tactic(auto)]
 
 mod cells;
+mod changes;
 mod done_list;
+mod durations;
+mod effects;
+mod ends;
+mod held;
+mod numbering;
 
 pub use cells::{Cell, Cells, Done, Held};
 pub use done_list::DoneList;
+pub use held::apply;
