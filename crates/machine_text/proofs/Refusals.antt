@@ -1,12 +1,17 @@
 -- The checks of a table refuse a field and nothing else.
-use Rattle.std.proofs.Common.{◌≡◌, ℕ, ◌+◌, true, false, List, [], ◌∷◌, ◌++◌, subst}
+use Rattle.std.proofs.Common.{◌≡◌, ◌≢◌, ℕ, ◌+◌, true, false, List, [], ◌∷◌, ◌++◌, Result, Ok, Err, IfErr, IsErrAnd, refl, sym, ◌∙◌, subst}
+use Rattle.std.specs.Prelude.{MatchResult}
+use Rattle.qccd_machine.specs.declared.fault.MachineFault.{MachineFault}
+use Rattle.qccd_machine.specs.declared.fault.MachineFault.TheVariants as machine
+use Rattle.qccd_machine.specs.Fault.{IsFirst}
+use Rattle.qccd_machine.specs.Machine.{MachineData}
 use Rattle.toml.specs.Data.{Members, no_members}
 use Rattle.machine_text.specs.declared.fault.TextFault.{TextFault}
 use Rattle.machine_text.specs.declared.fault.TextFault.TheVariants.{NotToml, MissingField, WrongValue, UnknownField, Machine, NoMemory}
 use Rattle.machine_text.specs.Field.{given_or}
 use Rattle.qccd_base.specs.FirstFailing.{IsFirstFailing}
 use Rattle.machine_text.specs.Checks.{Check, row_checks, traps_in, trap_checks, all_trap_checks, segments_in, segment_checks, all_segment_checks, times_in, time_table_checks, all_time_checks, document_checks}
-use Rattle.machine_text.specs.Machine.{IsRefusedField, IsRefusalOf}
+use Rattle.machine_text.specs.Machine.{IsDescription, IsRefusedParts, IsRefusedField, IsRefusalOf, text_fault_of}
 
 -- the refusal is of a field
 abbrev IsOfField : TextFault → Type 0
@@ -68,3 +73,28 @@ by_fault text NoMemory field refused = absurd field
 pub refused-field : (text : List ℕ) (fault : TextFault) → IsRefusedField text fault → IsRefusalOf text fault
 refused-field text fault refused =
     by_fault text fault (first_is (document_checks refused.fields) fault (of_document refused.fields) refused.first) refused
+
+-- parts that make no machine, as a refusal of their text
+of_parts : (text : List ℕ) (fault : MachineFault) → text_fault_of fault ≢ NoMemory → (fault ≢ machine.NoMemory → IsRefusedParts text fault) → IsRefusalOf text (text_fault_of fault)
+of_parts text machine.NoTrap other refused = refused (λ e. cc)
+of_parts text (machine.TooMany what) other refused = refused (λ e. cc)
+of_parts text (machine.Capacity t) other refused = refused (λ e. cc)
+of_parts text (machine.EndTaken s) other refused = refused (λ e. cc)
+of_parts text (machine.BadEnd s) other refused = refused (λ e. cc)
+of_parts text (machine.SelfJoined s) other refused = refused (λ e. cc)
+of_parts text (machine.JunctionDegree j) other refused = refused (λ e. cc)
+of_parts text (machine.NotConnected place) other refused = refused (λ e. cc)
+of_parts text (machine.TableRange field) other refused = refused (λ e. cc)
+of_parts text machine.NoMemory other refused = absurd (other refl)
+
+-- what is told where building refuses the parts
+pub refused-parts : {M : Type 0} (text : List ℕ) (parts : MachineData) (built : Result M MachineFault) (told : Result M TextFault) (Told : MachineFault → TextFault → Type 0)
+    → ((fault : MachineFault) (e : TextFault) → Told fault e → e ≡ text_fault_of fault) → IsDescription text parts
+    → IfErr built (λ f. f ≢ machine.NoMemory → IsFirst parts f) → MatchResult built (λ x. told ≡ Ok x) (λ f. IsErrAnd told (Told f))
+    → IfErr told (λ e. e ≢ NoMemory → IsRefusalOf text e)
+refused-parts text parts (Ok x) (Ok y) Told means description first is = tt
+refused-parts text parts (Ok x) (Err e) Told means description first is = cc
+refused-parts text parts (Err fault) (Ok y) Told means description first is = absurd is
+refused-parts text parts (Err fault) (Err e) Told means description first is = λ other.
+    let same : e ≡ text_fault_of fault = means fault e is in
+    subst (IsRefusalOf text) (sym same) (of_parts text fault (λ none. other (same ∙ none)) (λ present. record { parts = parts; description = description; first = first present }))

@@ -3,9 +3,9 @@ use Rattle.std.proofs.Common.{◌≡◌, ℕ, zero, suc, ◌<◌, ◌⊎◌, inl
 use Rattle.std.specs.Prelude.{slice_get}
 use Rattle.std.proofs.lemmas.Bool.{cases_Bool, cases_eq, cases_lt, false≢true}
 use Rattle.std.proofs.lemmas.Option.{none-some, same_Some, slice_get_cases}
-use Rattle.qccd_base.specs.Resource.{rank_of, number_of}
+use Rattle.qccd_base.specs.Resource.{same_res}
+use Rattle.qccd_base.proofs.Resources.{same_res-own, same_res-true}
 use Rattle.qccd_base.specs.declared.names.Res.{Res}
-use Rattle.qccd_base.specs.declared.names.Res.TheVariants.{Trap, Seg, Junc, Bit}
 use Rattle.qccd_machine.specs.declared.place.Place.{Place}
 use Rattle.qccd_machine.specs.declared.place.Place.TheVariants.{TrapEnd, Junction}
 use Rattle.qccd_machine.specs.Machine.{same_place}
@@ -54,27 +54,10 @@ decided_at xs k P each = elim (slice_get_cases xs k).1 [
 
 -- ---- resources
 
--- the resource of a kind and a number
-numbered : ℕ → ℕ → Res
-numbered zero n = Trap (record { 0 = n })
-numbered (suc zero) n = Seg (record { 0 = n })
-numbered (suc (suc zero)) n = Junc (record { 0 = n })
-numbered (suc (suc (suc kind))) n = Bit (record { 0 = n })
-
-numbered-own : (r : Res) → numbered (rank_of r) (number_of r) ≡ r
-unfolding numbered
-numbered-own (Trap t) = refl
-numbered-own (Seg s) = refl
-numbered-own (Junc j) = refl
-numbered-own (Bit b) = refl
-
 pub decided_same : (a b : Res) → Decided (a ≡ b)
-decided_same a b = elim (cases_eq (rank_of a) (rank_of b)) [
-  | inl kinds ↦ elim (cases_eq (number_of a) (number_of b)) [
-    | inl numbers ↦ inl (sym (numbered-own a) ∙ ap (λ k. numbered k (number_of a)) kinds ∙ ap (numbered (rank_of b)) numbers ∙ numbered-own b)
-    | inr apart ↦ inr (λ same. apart (ap number_of same))
-  ]
-  | inr apart ↦ inr (λ same. apart (ap rank_of same))
+decided_same a b = elim (cases_Bool (same_res a b)) [
+  | inl h ↦ inl (same_res-true a b h)
+  | inr h ↦ inr (λ same. false≢true (sym h ∙ ap (same_res a) (sym same) ∙ same_res-own a))
 ]
 
 -- ---- ends of segments

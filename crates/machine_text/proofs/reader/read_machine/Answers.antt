@@ -3,8 +3,9 @@ use Rattle.toml.specs.View.{table_view}
 use Rattle.machine_text.specs.declared.fault.TextFault.{TextFault}
 use Rattle.machine_text.specs.declared.fault.TextFault.TheVariants.{NoMemory}
 use Rattle.machine_text.specs.Machine.{IsRefusalOf}
+use Rattle.qccd_machine.specs.Fault.{data_of}
 use Rattle.machine_text.proofs.Order.{exit}
-use Rattle.machine_text.proofs.Refusals.{refused-field}
+use Rattle.machine_text.proofs.Refusals.{refused-field, refused-parts}
 use Rattle.machine_text.proofs.reader.read_machine.Goals as goal
 
 pub returns-in_err-parts-clause-refused : goal.returns-in_err-parts-clause-refused
@@ -17,3 +18,12 @@ returns-in_err-parts-clause-refused c =
       is_table = c.in_ok-table.ensures.table;
       first = c.in_err-parts.ensures.refused other;
     }))
+
+pub returns-clause-refused : goal.returns-clause-refused
+returns-clause-refused c =
+    refused-parts c.args.text.now (data_of c.in_ok-parts.parts) c.build.result c.map_err.result _ (λ fault e is. is) (record {
+      fields = table_view c.in_ok-table.table;
+      is_table = c.in_ok-table.ensures.table;
+      none_wrong = c.in_ok-parts.ensures.passed;
+      describes = c.in_ok-parts.ensures.described;
+    }) c.build.ensures.refused c.map_err.ensures.cases
