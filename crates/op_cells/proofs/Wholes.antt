@@ -42,11 +42,11 @@ map_twice : {X Y Z : Type 0} (g : Y → Z) (f : X → Y) (xs : List X) → map g
 map_twice g f [] = refl
 map_twice {X} {Y} {Z} g f (x ∷ xs) = ap (λ (ys : List Z). g (f x) ∷ ys) (map_twice g f xs)
 
-mapped_long : {X Y : Type 0} (f : X → Y) (xs : List X) → length (map f xs) ≡ length xs
+pub mapped_long : {X Y : Type 0} (f : X → Y) (xs : List X) → length (map f xs) ≡ length xs
 mapped_long f [] = refl
 mapped_long f (x ∷ xs) = ap suc (mapped_long f xs)
 
-acted_long : (m : MachineData) (op : OpKind) (cs : List Content) → length cs ≡ length (touches op) → length (acted m op cs) ≡ length (touches op)
+pub acted_long : (m : MachineData) (op : OpKind) (cs : List Content) → length cs ≡ length (touches op) → length (acted m op cs) ≡ length (touches op)
 acted_long m (Split t e g) cs long = refl
 acted_long m (Move g) cs long = refl
 acted_long m (Enter g j) cs long = refl
@@ -58,7 +58,7 @@ acted_long m (Item number t item at) cs long = long
 acted_long m (Fence number item traps) cs long = long
 
 -- what touches neither one resource nor two changes none
-quiet : (m : MachineData) (op : OpKind) (cs : List Content) → length (touches op) ≢ 1 → length (touches op) ≢ 2 → acted m op cs ≡ cs
+pub quiet : (m : MachineData) (op : OpKind) (cs : List Content) → length (touches op) ≢ 1 → length (touches op) ≢ 2 → acted m op cs ≡ cs
 quiet m (Split t e g) cs one two = absurd (two refl)
 quiet m (Move g) cs one two = absurd (one refl)
 quiet m (Enter g j) cs one two = absurd (two refl)

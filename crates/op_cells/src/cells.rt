@@ -1,8 +1,14 @@
 //! The cells of a machine: what each resource holds, when it is free, and what was done with it.
 
+ghost use Rattle.std.specs.Prelude.{◌≡◌, ◌<◌, ℕ, Some, length, slice_get};
+ghost use Rattle.op_cells.specs.Kinds.{is_trap, is_up_to_segment, is_up_to_junction, junctions_end, place_of, segments_end, traps_end};
+ghost use Rattle.op_cells.specs.OneRun.{MayRun, Ran};
+
 use crate::done_list::DoneList;
-use op_table::Content;
+use crate::running::run_on;
+use op_table::{Content, Op};
 use qccd_base::Res;
+use qccd_machine::Machine;
 use std::marker::Model;
 
 /// That an operation was done, and when.
@@ -41,4 +47,118 @@ impl Model for Cells {
     ghost Value = { List Cell };
 
     ghost view = { λ a. a.cells.items };
+}
+
+impl Cells {
+    /// The cells of the list, in its order.
+    pub fn of_list(list: Vec<Cell>) -> Cells
+        ensures { result ≡ list.items }
+    {
+        Cells { cells: list }
+    }
+
+    /// The cells, in their order.
+    pub fn as_slice(&self) -> &[Cell]
+        ensures { result.now ≡ self.now }
+    {
+        self.cells.as_slice()
+    }
+
+    /// The cell of the resource: those of traps stand first, then those of segments, of junctions and of
+    /// bits, each by number.
+    pub fn at(&self, r: Res) -> &Cell
+        requires { place_of self.now r < length self.now }
+        ensures { slice_get self.now (place_of self.now r) ≡ Some result.now }
+    {
+        let cells = self.cells.as_slice();
+        let place = match r {
+            Res::Trap(trap) => usize::from(trap.0),
+            Res::Seg(seg) => traps_end(cells) + usize::from(seg.0),
+            Res::Junc(junc) => segments_end(cells) + usize::from(junc.0),
+            Res::Bit(bit) => junctions_end(cells) + usize::from(bit.0),
+        };
+        &cells[place]
+    }
+
+    /// The list of the cells, in its order.
+    pub fn into_list(self) -> Vec<Cell>
+        ensures { result.items ≡ self }
+    {
+        self.cells
+    }
+}
+
+/// Does the operation, as number `k`, on the cells that it touches: on what they hold, on the clock of
+/// each, and in the log of the first. All others stay. It takes no memory.
+pub fn run_one(machine: &Machine, k: u32, op: &Op, cells: &mut Cells)
+    requires { MayRun machine.now op.now cells.old }
+    ensures { (bits : ℕ) → Ran machine.now bits k op.now cells.old cells.new }
+{
+    run_on(machine, k, op, cells.cells.as_mut_slice());
+}
+
+// Where the traps end.
+fn traps_end(cells: &[Cell]) -> usize
+    ensures { result ≡ traps_end cells.now }
+{
+    cells
+        .iter()
+        .take_while(|cell| is_trap(&cell.content))
+        .count()
+}
+
+// Where the segments end.
+fn segments_end(cells: &[Cell]) -> usize
+    ensures { result ≡ segments_end cells.now }
+{
+    cells
+        .iter()
+        .take_while(|cell| is_up_to_segment(&cell.content))
+        .count()
+}
+
+// Where the junctions end.
+fn junctions_end(cells: &[Cell]) -> usize
+    ensures { result ≡ junctions_end cells.now }
+{
+    cells
+        .iter()
+        .take_while(|cell| is_up_to_junction(&cell.content))
+        .count()
+}
+
+// Whether it is a trap's.
+fn is_trap(content: &Content) -> bool
+    ensures { result ≡ is_trap content.now }
+{
+    match content {
+        Content::Trap { chain: _, heat: _ } => true,
+        Content::Seg { rider: _ } => false,
+        Content::Junc { carry: _ } => false,
+        Content::Bit => false,
+    }
+}
+
+// Whether it is a trap's or a segment's.
+fn is_up_to_segment(content: &Content) -> bool
+    ensures { result ≡ is_up_to_segment content.now }
+{
+    match content {
+        Content::Trap { chain: _, heat: _ } => true,
+        Content::Seg { rider: _ } => true,
+        Content::Junc { carry: _ } => false,
+        Content::Bit => false,
+    }
+}
+
+// Whether it is a trap's, a segment's or a junction's.
+fn is_up_to_junction(content: &Content) -> bool
+    ensures { result ≡ is_up_to_junction content.now }
+{
+    match content {
+        Content::Trap { chain: _, heat: _ } => true,
+        Content::Seg { rider: _ } => true,
+        Content::Junc { carry: _ } => true,
+        Content::Bit => false,
+    }
 }

@@ -9,7 +9,8 @@ mod effects;
 mod ends;
 mod held;
 mod numbering;
+mod running;
 
-pub use cells::{Cell, Cells, Done, Held};
+pub use cells::{Cell, Cells, Done, Held, run_one};
 pub use done_list::DoneList;
 pub use held::apply;
