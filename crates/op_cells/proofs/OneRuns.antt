@@ -1,8 +1,9 @@
 -- One operation done in place on all cells.
-use Rattle.std.proofs.Common.{◌≡◌, ◌≢◌, ℕ, zero, suc, ◌+◌, ◌-◌, ◌<◌, ◌≤◌, ◌^◌, Bool, true, List, [], ◌∷◌, ◌++◌, map, length, get_or, refl, sym, ◌∙◌, ap, ap₂, subst, arith, Option, Some, None, option_map, slice_get, All, length-append}
+use Rattle.std.proofs.Common.{◌≡◌, ◌≢◌, ℕ, zero, suc, ◌+◌, ◌-◌, ◌<◌, ◌≤◌, ◌^◌, Bool, true, List, [], ◌∷◌, ◌++◌, map, take, length, get_or, refl, sym, ◌∙◌, ap, ap₂, subst, arith, Option, Some, None, option_map, slice_get, All, length-append}
 use Rattle.std.specs.List.{AllByRecursion}
 use Rattle.std.proofs.lemmas.List.Elements.{All-from_recursion, recursion_from_All}
 use Rattle.std.proofs.lemmas.Option.{same_Some, none-some, slice_get_within}
+use Rattle.std.proofs.Math.Seq.{take-append_seam}
 use Rattle.std.proofs.lemmas.Bool.Decides.{nat_tests}
 use Rattle.qccd_base.specs.Greatest.{greatest}
 use Rattle.qccd_base.specs.declared.names.Res.{Res}
@@ -309,3 +310,9 @@ pub room-read : (m : MachineData) (op : OpKind) (ts : List Res) (old mid free : 
 room-read m op ts old mid free finish same may did freed =
     let all = freed ∙ ap (adjust_all m (touches op) (map (λ (r : Res). free_from finish) (touches op))) did in
     subst (λ (rs : List Res). HasFirstRoom m rs free) (sym same) (subst (HasFirstRoom m (touches op)) (sym all) (first-room m op finish (acted m op (map (content_at m old) (touches op))) old may))
+
+-- the same, where the list is written back into what held it
+pub ran-kept : (m : MachineData) (k : ℕ) (op : OpKind) (old slice new rest : List Cell) (n : ℕ) → slice ≡ old → length slice ≡ n → ((bits : ℕ) → Ran m bits k op slice new) → (bits : ℕ) → Ran m bits k op old (take n (new ++ rest))
+ran-kept m k op old slice new rest n same long is bits =
+    let whole : take n (new ++ rest) ≡ new = ap (λ (i : ℕ). take i (new ++ rest)) (sym long ∙ sym (is 0).long) ∙ take-append_seam new rest in
+    subst (λ (cs : List Cell). Ran m bits k op cs (take n (new ++ rest))) same (subst (Ran m bits k op slice) (sym whole) (is bits))
