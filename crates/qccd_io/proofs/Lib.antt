@@ -5,5 +5,6 @@ pub mod Files
 pub mod Lending
 pub mod Pieces
 pub mod Planning
+pub mod Sent
 pub mod Taking
 pub mod Telling

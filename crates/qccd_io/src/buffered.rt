@@ -1,6 +1,9 @@
+//! Small writes gathered into large ones.
+
 ghost use Rattle.std.specs.Prelude.{◌≡◌, ℕ, ◌<◌, ◌≤◌, ◌++◌, ◌∷◌, List, [], length, take, drop, IfOk, OnOk, OnErr};
 ghost use Rattle.qccd_io.specs.Faults.{Rose};
-ghost use Rattle.qccd_io.specs.Sink.{appended, known_length, TookPrefix, Further};
+ghost use Rattle.qccd_io.specs.Sends.{Sends};
+ghost use Rattle.qccd_io.specs.Sink.{appended, known_length, Further};
 
 use crate::failed::Failed;
 use crate::sink::Sink;
@@ -128,15 +131,9 @@ impl<'a, S: Sink> Buffered<'a, S> {
     }
 
     /// Hands on what waits: the other sink then took all that was written since `of`. Where it
-    /// fails, that sink took some first bytes of what waited, and its count of faults rose.
+    /// fails, that sink took a prefix of what waited, and its count of faults rose.
     pub fn finish(self) -> Result<(), Failed>
-        ensures ok { OnOk result (S.taken self.exit.0.now
-            ≡ appended (S.taken self.entry.sink.now) self.entry.buffer.now) }
-        ensures err { OnErr result (TookPrefix (S.taken self.entry.sink.now)
-            (S.taken self.exit.0.now) self.entry.buffer.now
-            × Rose (S.faults self.entry.sink.now) (S.faults self.exit.0.now)) }
-        ensures count { S.faults self.entry.sink.now ≤ S.faults self.exit.0.now }
-        ensures further { Further (S.behind self.entry.sink.now) (S.behind self.exit.0.now) }
+        ensures { Sends S.taken S.faults S.behind self.entry.sink.now self.exit.0.now result self.entry.buffer.now }
     {
         let Buffered { sink, buffer } = self;
         hand_on(sink, buffer)

@@ -1,3 +1,5 @@
+//! Reading a whole file.
+
 ghost use Rattle.std.specs.Prelude.{◌≡◌, ◌+◌, ◌<◌, ◌≤◌, ◌⊎◌, Option, IfOk, IfErr, length, vec_len};
 ghost use Rattle.qccd_io.specs.Faults.{Rose};
 ghost use Rattle.qccd_io.specs.Fetch.{MatchFault, SameFile, HasLeft, HasMoreLeft, HoldsFile, HoldsMoreThan};

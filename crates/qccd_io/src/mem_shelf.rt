@@ -1,3 +1,5 @@
+//! Files in memory, whose calls fail where they are told to.
+
 ghost use Rattle.std.specs.Prelude.{◌≡◌, ◌+◌, ◌-◌, ◌^◌, ◌<◌, ◌≤◌, ◌⊎◌, ◌↔◌, None, Some, IsTrue, IsErr, IfOk, OnErr, IfSome, IfNone, OnSome, MatchResult, bytes_eq, length, map, min, position, string_bytes, take, vec_len, vec_capacity};
 ghost use Rattle.qccd_io.specs.Faults.{Rose};
 ghost use Rattle.qccd_io.specs.Stock.{entry_of, file_named, holding_of, HaveDistinctNames, fails, after_call, faults_after, TakesNamed};

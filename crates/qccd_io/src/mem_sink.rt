@@ -1,3 +1,5 @@
+//! A sink over memory, whose writes fail where they are told to.
+
 ghost use Rattle.std.specs.Prelude.{◌≡◌, ◌<◌, ◌≤◌, [], true, false, Some, IfOk, OnErr, MatchResult, ◌==◌};
 ghost use Rattle.std.specs.List.{list_any};
 ghost use Rattle.qccd_io.specs.Memory.{refuses, taking, after_write};

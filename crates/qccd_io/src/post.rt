@@ -1,3 +1,5 @@
+//! What a worker tells between the claim of an operation and its hand-back.
+
 /// What a worker calls between the claim of an operation and its hand-back, so that others may
 /// watch or slow the work. It returns, and changes nothing that a clause speaks of.
 pub trait Post: Send + Sync {

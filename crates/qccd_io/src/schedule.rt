@@ -1,3 +1,5 @@
+//! Which calls of a shelf over memory fail.
+
 ghost use Rattle.std.specs.Prelude.{◌≡◌};
 
 use std::marker::Model;

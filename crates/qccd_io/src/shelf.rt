@@ -1,3 +1,5 @@
+//! Files by name.
+
 ghost use Rattle.std.specs.Prelude.{◌≡◌, ℕ, ◌<◌, ◌≤◌, ◌⊎◌, Option, IfOk, OnErr};
 ghost use Rattle.qccd_io.specs.Faults.{Rose};
 ghost use Rattle.qccd_io.specs.Shelf.{Holding, NoneIsOut, Lacks, HoldsTheSame, Lends, CanGiveBack, PutsBack};
@@ -10,7 +12,7 @@ use crate::source::Source;
 /// `faults` counts the files that could not be lent, and the sources with faults that were given
 /// back. A shelf over memory also tells which files it holds, and whether a source is out.
 pub trait Shelf {
-    type Src: Source + Drop;
+    type Src: Source;
 
     ghost faults: { Self → ℕ };
 

@@ -1,6 +1,9 @@
-ghost use Rattle.std.specs.Prelude.{◌≡◌, ℕ, ◌≤◌, List, Option, IfOk, OnOk, OnErr};
+//! Sinks, and sending a whole text to one.
+
+ghost use Rattle.std.specs.Prelude.{◌≡◌, ℕ, ◌≤◌, List, Option, IfOk, OnErr};
 ghost use Rattle.qccd_io.specs.Faults.{Rose};
-ghost use Rattle.qccd_io.specs.Sink.{appended, TookFirst, TookPrefix, Behind, nothing_behind, Further};
+ghost use Rattle.qccd_io.specs.Sends.{Sends};
+ghost use Rattle.qccd_io.specs.Sink.{TookFirst, Behind, nothing_behind, Further};
 
 use crate::failed::Failed;
 
@@ -25,14 +28,10 @@ pub trait Sink {
         ensures further { Further (behind self.old) (behind self.new) };
 }
 
-/// Appends the whole text. Where it fails, some first bytes of the text were appended and the
-/// count of faults rose. It takes no memory.
+/// Appends the whole text. Where it fails, a prefix of the text was appended and the count of
+/// faults rose. It takes no memory.
 pub fn send<S: Sink>(sink: &mut S, text: &[u8]) -> Result<(), Failed>
-    ensures ok { OnOk result (S.taken sink.new ≡ appended (S.taken sink.old) text.now) }
-    ensures err { OnErr result (TookPrefix (S.taken sink.old) (S.taken sink.new) text.now
-        × Rose (S.faults sink.old) (S.faults sink.new)) }
-    ensures count { S.faults sink.old ≤ S.faults sink.new }
-    ensures further { Further (S.behind sink.old) (S.behind sink.new) }
+    ensures { Sends S.taken S.faults S.behind sink.old sink.new result text.now }
 {
     let mut sent = 0;
     while sent < text.len() {

@@ -1,6 +1,9 @@
+//! Sinks that fail, buffers over them, and streams.
+
 ghost use Rattle.std.specs.Prelude.{◌≡◌, ◌≤◌, ◌++◌, IfOk, OnOk, OnErr};
 ghost use Rattle.qccd_io.specs.Faults.{Rose};
-ghost use Rattle.qccd_io.specs.Sink.{appended, TookPrefix, Further};
+ghost use Rattle.qccd_io.specs.Sends.{Sends};
+ghost use Rattle.qccd_io.specs.Sink.{appended, TookPrefix};
 
 use crate::{Buffer, Buffered, Failed, MemSink, NoPost, Post, Sink, StdSink, send};
 use qccd_base::NoMemory;
@@ -15,13 +18,7 @@ fn send_three<S: Sink>(
     second: &[u8],
     third: &[u8],
 ) -> Result<(), Failed>
-    ensures ok { OnOk result (S.taken sink.new
-        ≡ appended (S.taken sink.old) (first.now ++ second.now ++ third.now)) }
-    ensures err { OnErr result (TookPrefix (S.taken sink.old) (S.taken sink.new)
-        (first.now ++ second.now ++ third.now)
-        × Rose (S.faults sink.old) (S.faults sink.new)) }
-    ensures count { S.faults sink.old ≤ S.faults sink.new }
-    ensures further { Further (S.behind sink.old) (S.behind sink.new) }
+    ensures { Sends S.taken S.faults S.behind sink.old sink.new result (first.now ++ second.now ++ third.now) }
 {
     send(sink, first)?;
     send(sink, second)?;

@@ -1,3 +1,5 @@
+//! Bytes that are read in order.
+
 ghost use Rattle.std.specs.Prelude.{◌≡◌, ℕ, ◌<◌, ◌≤◌, Option, length, take, IfOk, OnErr};
 ghost use Rattle.qccd_io.specs.Faults.{Rose};
 ghost use Rattle.qccd_io.specs.Source.{Telling, Reads, AtEnd};

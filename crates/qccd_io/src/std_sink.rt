@@ -1,3 +1,5 @@
+//! A sink over a stream of std.
+
 ghost use Rattle.std.specs.Prelude.{◌≡◌, None};
 
 use crate::failed::Failed;

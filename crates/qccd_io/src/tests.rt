@@ -1,3 +1,5 @@
+//! Fetching files from memory and from the system.
+
 ghost use Rattle.std.specs.Prelude.{Some, IfOk};
 ghost use Rattle.qccd_io.specs.Stock.{holding_of};
 ghost use Rattle.qccd_io.specs.Shelf.{NoneIsOut};

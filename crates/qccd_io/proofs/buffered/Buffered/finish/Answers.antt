@@ -1,6 +1,6 @@
-use Rattle.std.proofs.Common.{rules}
-use Rattle.qccd_io.proofs.Appended.{prefix-handed}
+use Rattle.qccd_io.proofs.Sent.{sent_handed}
 use Rattle.qccd_io.proofs.buffered.Buffered.finish.Goals as goal
 
-pub returns-clause-err : goal.returns-clause-err
-returns-clause-err g c = search (rules, prefix-handed _ _ _ _ c.hand_on.ensures.taken c.hand_on.ensures.handed)
+pub returns : goal.returns
+returns g c =
+    sent_handed _ _ _ c.hand_on.ensures.taken c.hand_on.ensures.handed c.hand_on.ensures.ok c.hand_on.ensures.err c.hand_on.ensures.count c.hand_on.ensures.further
