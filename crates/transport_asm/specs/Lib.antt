@@ -1,2 +1,9 @@
 pub mod OpText
+pub mod Steps
+pub mod Slots
+pub mod Shapes
+pub mod Operations
+pub mod Lines
+pub mod Texts
+pub mod Writable
 pub mod Example

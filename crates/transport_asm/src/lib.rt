@@ -1,4 +1,8 @@
-//! The text of transport programs. The definitions stand in `specs/`.
+//! The texts of transport programs, written and read.
 #![tactic(auto)]
 
+mod faults;
+pub mod laws;
 pub mod worked;
+
+pub use faults::AsmKind;

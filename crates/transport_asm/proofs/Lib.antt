@@ -1,0 +1,12 @@
+pub mod Cut
+pub mod Parts
+pub mod Numbers
+pub mod SlotLaws
+pub mod Fitting
+pub mod GateLaws
+pub mod ItemLaws
+pub mod OpLaws
+pub mod Rule
+pub mod LineLaws
+pub mod TextLaws
+pub mod Answered
