@@ -10,3 +10,4 @@ pub mod Rule
 pub mod LineLaws
 pub mod TextLaws
 pub mod Answered
+pub mod Sending

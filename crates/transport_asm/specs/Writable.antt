@@ -2,8 +2,7 @@
 use Rattle.std.specs.Prelude.{◌≡◌, ℕ, ◌≤◌, List, length, None, IfSome}
 use Rattle.std.specs.List.{AllByRecursion}
 use Rattle.qccd_base.specs.declared.names.Ion.{Ion}
-use Rattle.qccd_circuit.specs.Item.{Fits}
-use Rattle.op_table.specs.Op.{IsOp}
+use Rattle.op_table.specs.Op.{IsOp, KeepsItemRule}
 use Rattle.op_table.specs.Run.{item_in}
 use Rattle.op_table.specs.declared.kinds.OpKind.{OpKind}
 use Rattle.op_table.specs.declared.kinds.OpKind.TheVariants.{Split, Move, Enter, Leave, Merge, Rot, GSwap, Item, Fence}
@@ -29,7 +28,7 @@ KeepsLimits (Fence number item traps) =
 -- an operation that has a text: it keeps to what each operation does, its item fits and is not conditional
 pub record IsWritable (op : OpKind) : Type 0 where
   pub is_op : IsOp op
-  pub fits : IfSome (item_in op) (λ e. Fits e.1)
+  pub fits : KeepsItemRule op
   pub unconditional : IfSome (item_in op) (λ e. e.1.cond ≡ None)
   pub limits : KeepsLimits op
 

@@ -4,5 +4,7 @@
 mod faults;
 pub mod laws;
 pub mod worked;
+mod writing;
 
 pub use faults::AsmKind;
+pub use writing::write_op;

@@ -1,0 +1,287 @@
+//! Operations, sent as their texts.
+
+ghost use Rattle.std.specs.Prelude.{◌≡◌, ◌∷◌, ◌++◌, codes, flat_map, length, zip, decimal};
+ghost use Rattle.qccd_io.specs.Sends.{Sends};
+ghost use Rattle.op_table.specs.declared.kinds.OpKind.TheVariants as op;
+ghost use Rattle.transport_asm.specs.OpText.{op_text, item_text, end_text, angles_text, operand_text, trap_text, qubit_text, bit_text, next_word};
+
+use op_table::{Op, OpKind};
+use qccd_base::{Bit, End, JuncId, Qubit, SegId, TrapId, number_text};
+use qccd_circuit::{Angle, Item};
+use qccd_io::{Failed, Sink, send, send_all, send_labelled};
+
+// The word of an end.
+fn end_word(end: End) -> &'static [u8]
+    ensures { result.now ≡ end_text end }
+{
+    match end {
+        End::Left => b"left",
+        End::Right => b"right",
+    }
+}
+
+fn send_split<S: Sink>(sink: &mut S, trap: TrapId, end: End, seg: SegId) -> Result<(), Failed>
+    ensures { Sends S.taken S.faults S.behind sink.old sink.new result (op_text (op.Split trap end seg)) }
+{
+    let trap = number_text(u64::from(trap.0));
+    let seg = number_text(u64::from(seg.0));
+    send_all(
+        sink,
+        &[
+            b"split T",
+            trap.as_bytes(),
+            b" ",
+            end_word(end),
+            b" S",
+            seg.as_bytes(),
+        ],
+    )
+}
+
+fn send_move<S: Sink>(sink: &mut S, seg: SegId) -> Result<(), Failed>
+    ensures { Sends S.taken S.faults S.behind sink.old sink.new result (op_text (op.Move seg)) }
+{
+    send_labelled(sink, b"move S", u64::from(seg.0))
+}
+
+fn send_enter<S: Sink>(sink: &mut S, seg: SegId, junc: JuncId) -> Result<(), Failed>
+    ensures { Sends S.taken S.faults S.behind sink.old sink.new result (op_text (op.Enter seg junc)) }
+{
+    let seg = number_text(u64::from(seg.0));
+    let junc = number_text(u64::from(junc.0));
+    send_all(sink, &[b"enter S", seg.as_bytes(), b" J", junc.as_bytes()])
+}
+
+fn send_leave<S: Sink>(sink: &mut S, junc: JuncId, seg: SegId) -> Result<(), Failed>
+    ensures { Sends S.taken S.faults S.behind sink.old sink.new result (op_text (op.Leave junc seg)) }
+{
+    let junc = number_text(u64::from(junc.0));
+    let seg = number_text(u64::from(seg.0));
+    send_all(sink, &[b"leave J", junc.as_bytes(), b" S", seg.as_bytes()])
+}
+
+fn send_merge<S: Sink>(sink: &mut S, seg: SegId, trap: TrapId, end: End) -> Result<(), Failed>
+    ensures { Sends S.taken S.faults S.behind sink.old sink.new result (op_text (op.Merge seg trap end)) }
+{
+    let seg = number_text(u64::from(seg.0));
+    let trap = number_text(u64::from(trap.0));
+    send_all(
+        sink,
+        &[
+            b"merge S",
+            seg.as_bytes(),
+            b" T",
+            trap.as_bytes(),
+            b" ",
+            end_word(end),
+        ],
+    )
+}
+
+fn send_rot<S: Sink>(sink: &mut S, trap: TrapId, at: u8) -> Result<(), Failed>
+    ensures { Sends S.taken S.faults S.behind sink.old sink.new result (op_text (op.Rot trap at)) }
+{
+    let trap = number_text(u64::from(trap.0));
+    let at = number_text(u64::from(at));
+    send_all(sink, &[b"rot T", trap.as_bytes(), b" ", at.as_bytes()])
+}
+
+fn send_gswap<S: Sink>(sink: &mut S, trap: TrapId, low: u8, high: u8) -> Result<(), Failed>
+    ensures { Sends S.taken S.faults S.behind sink.old sink.new result (op_text (op.GSwap trap low high)) }
+{
+    let trap = number_text(u64::from(trap.0));
+    let low = number_text(u64::from(low));
+    let high = number_text(u64::from(high));
+    send_all(
+        sink,
+        &[
+            b"gswap T",
+            trap.as_bytes(),
+            b" ",
+            low.as_bytes(),
+            b" ",
+            high.as_bytes(),
+        ],
+    )
+}
+
+fn send_operand<S: Sink>(sink: &mut S, qubit: Qubit, at: u8) -> Result<(), Failed>
+    ensures { Sends S.taken S.faults S.behind sink.old sink.new result (next_word (operand_text (qubit, at))) }
+{
+    let qubit = number_text(u64::from(qubit.0));
+    let at = number_text(u64::from(at));
+    send_all(sink, &[b" q", qubit.as_bytes(), b"@", at.as_bytes()])
+}
+
+// The qubits of an item, each with its position.
+fn send_operands<S: Sink>(sink: &mut S, qubits: &[Qubit], at: &[u8]) -> Result<(), Failed>
+    requires { length at.now ≡ length qubits.now }
+    ensures { Sends S.taken S.faults S.behind sink.old sink.new result (flat_map (λ operand. next_word (operand_text operand)) (zip qubits.now at.now)) }
+{
+    for i in 0..qubits.len() {
+        send_operand(sink, qubits[i], at[i])?;
+    }
+    Ok(())
+}
+
+fn send_bit<S: Sink>(sink: &mut S, bit: Bit) -> Result<(), Failed>
+    ensures { Sends S.taken S.faults S.behind sink.old sink.new result (next_word (bit_text bit)) }
+{
+    send_labelled(sink, b" b", u64::from(bit.0))
+}
+
+fn send_bits<S: Sink>(sink: &mut S, bits: &[Bit]) -> Result<(), Failed>
+    ensures { Sends S.taken S.faults S.behind sink.old sink.new result (flat_map (λ b. next_word (bit_text b)) bits.now) }
+{
+    for bit in bits {
+        send_bit(sink, *bit)?;
+    }
+    Ok(())
+}
+
+fn send_trap<S: Sink>(sink: &mut S, trap: TrapId) -> Result<(), Failed>
+    ensures { Sends S.taken S.faults S.behind sink.old sink.new result (next_word (trap_text trap)) }
+{
+    send_labelled(sink, b" T", u64::from(trap.0))
+}
+
+fn send_traps<S: Sink>(sink: &mut S, traps: &[TrapId]) -> Result<(), Failed>
+    ensures { Sends S.taken S.faults S.behind sink.old sink.new result (flat_map (λ t. next_word (trap_text t)) traps.now) }
+{
+    for trap in traps {
+        send_trap(sink, *trap)?;
+    }
+    Ok(())
+}
+
+fn send_qubit<S: Sink>(sink: &mut S, qubit: Qubit) -> Result<(), Failed>
+    ensures { Sends S.taken S.faults S.behind sink.old sink.new result (next_word (qubit_text qubit)) }
+{
+    send_labelled(sink, b" q", u64::from(qubit.0))
+}
+
+fn send_qubits<S: Sink>(sink: &mut S, qubits: &[Qubit]) -> Result<(), Failed>
+    ensures { Sends S.taken S.faults S.behind sink.old sink.new result (flat_map (λ q. next_word (qubit_text q)) qubits.now) }
+{
+    for qubit in qubits {
+        send_qubit(sink, *qubit)?;
+    }
+    Ok(())
+}
+
+// The angles of a gate behind its name, where it has any.
+fn send_angles<S: Sink>(sink: &mut S, angles: &[Angle]) -> Result<(), Failed>
+    ensures { Sends S.taken S.faults S.behind sink.old sink.new result (angles_text angles.now) }
+{
+    match angles {
+        [] => Ok(()),
+        [first, rest @ ..] => send_some_angles(sink, first, rest),
+    }
+}
+
+fn send_some_angles<S: Sink>(sink: &mut S, first: &Angle, rest: &[Angle]) -> Result<(), Failed>
+    ensures { Sends S.taken S.faults S.behind sink.old sink.new result (angles_text (first.now ∷ rest.now)) }
+{
+    send_first_angle(sink, first)?;
+    send_further_angles(sink, rest)?;
+    send(sink, b")")
+}
+
+fn send_further_angles<S: Sink>(sink: &mut S, angles: &[Angle]) -> Result<(), Failed>
+    ensures { Sends S.taken S.faults S.behind sink.old sink.new result (flat_map (λ angle. codes "," ++ angle) angles.now) }
+{
+    for angle in angles {
+        send_angle(sink, angle)?;
+    }
+    Ok(())
+}
+
+fn send_first_angle<S: Sink>(sink: &mut S, angle: &Angle) -> Result<(), Failed>
+    ensures { Sends S.taken S.faults S.behind sink.old sink.new result (codes "(" ++ angle.now) }
+{
+    send_all(sink, &[b"(", angle.as_slice()])
+}
+
+fn send_angle<S: Sink>(sink: &mut S, angle: &Angle) -> Result<(), Failed>
+    ensures { Sends S.taken S.faults S.behind sink.old sink.new result (codes "," ++ angle.now) }
+{
+    send_all(sink, &[b",", angle.as_slice()])
+}
+
+fn send_name<S: Sink>(sink: &mut S, item: &Item) -> Result<(), Failed>
+    ensures { Sends S.taken S.faults S.behind sink.old sink.new result (next_word item.now.name) }
+{
+    send_all(sink, &[b" ", item.name().as_slice()])
+}
+
+// The name and the angles of a gate, as one word.
+fn send_gate<S: Sink>(sink: &mut S, item: &Item) -> Result<(), Failed>
+    ensures { Sends S.taken S.faults S.behind sink.old sink.new result (next_word (item.now.name ++ angles_text item.now.angles)) }
+{
+    send_name(sink, item)?;
+    send_angles(sink, item.angles().as_slice())
+}
+
+// The name of an operation with the number of its item.
+fn send_headed<S: Sink>(sink: &mut S, name: &[u8], number: u32) -> Result<(), Failed>
+    ensures { Sends S.taken S.faults S.behind sink.old sink.new result (name.now ++ decimal number) }
+{
+    send_labelled(sink, name, u64::from(number))
+}
+
+fn send_item<S: Sink>(
+    sink: &mut S,
+    number: u32,
+    trap: TrapId,
+    item: &Item,
+    at: &[u8],
+) -> Result<(), Failed>
+    requires { length at.now ≡ length item.now.qubits }
+    ensures { Sends S.taken S.faults S.behind sink.old sink.new result (op_text (op.Item number trap item.now at.now)) }
+{
+    send_headed(sink, b"item ", number)?;
+    send_gate(sink, item)?;
+    send_trap(sink, trap)?;
+    send_operands(sink, item.qubits().as_slice(), at)?;
+    send_bits(sink, item.bits().as_slice())
+}
+
+fn send_fence<S: Sink>(
+    sink: &mut S,
+    number: u32,
+    item: &Item,
+    traps: &[TrapId],
+) -> Result<(), Failed>
+    ensures { Sends S.taken S.faults S.behind sink.old sink.new result (op_text (op.Fence number item.now traps.now)) }
+{
+    send_headed(sink, b"fence ", number)?;
+    send_traps(sink, traps)?;
+    send_qubits(sink, item.qubits().as_slice())
+}
+
+/// Appends the text of the operation, with no line feed behind it. Where it fails, a prefix of the text
+/// was appended and the count of faults rose. It takes no memory.
+pub fn write_op<S: Sink>(op: &Op, sink: &mut S) -> Result<(), Failed>
+    ensures { Sends S.taken S.faults S.behind sink.old sink.new result (op_text op.now) }
+{
+    match op.kind() {
+        OpKind::Split { trap, end, seg } => send_split(sink, *trap, *end, *seg),
+        OpKind::Move { seg } => send_move(sink, *seg),
+        OpKind::Enter { seg, junc } => send_enter(sink, *seg, *junc),
+        OpKind::Leave { junc, seg } => send_leave(sink, *junc, *seg),
+        OpKind::Merge { seg, trap, end } => send_merge(sink, *seg, *trap, *end),
+        OpKind::Rot { trap, at } => send_rot(sink, *trap, *at),
+        OpKind::GSwap { trap, low, high } => send_gswap(sink, *trap, *low, *high),
+        OpKind::Item {
+            number,
+            trap,
+            item,
+            at,
+        } => send_item(sink, *number, *trap, item, at.as_slice()),
+        OpKind::Fence {
+            number,
+            item,
+            traps,
+        } => send_fence(sink, *number, item, traps.as_slice()),
+    }
+}
