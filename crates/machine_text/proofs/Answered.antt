@@ -1,5 +1,5 @@
 -- A text has one answer: it is that of a machine or is refused, and never both.
-use Rattle.std.proofs.Common.{◌≡◌, ℕ, ◌+◌, ◌⊎◌, inl, inr, true, false, List, [], ◌∷◌, ◌++◌, map, Option, Some, None, IsUtf8, refl, sym, ap, subst, ◌∙◌}
+use Rattle.std.proofs.Common.{◌≡◌, ℕ, ◌+◌, ◌⊎◌, inl, inr, List, [], ◌∷◌, ◌++◌, map, Option, Some, None, IsUtf8, refl, sym, ap, subst, ◌∙◌}
 use Rattle.std.specs.Str.{is_utf8}
 use Rattle.std.proofs.lemmas.Bool.{cases_Bool, false≢true}
 use Rattle.std.proofs.lemmas.Option.{same_Some, none-some}
@@ -20,7 +20,7 @@ use Rattle.machine_text.specs.declared.fault.Spot.{Spot}
 use Rattle.machine_text.specs.declared.fault.Part.TheVariants.{Top, Trap, Segment, Capacity, EndA, EndB, Junctions}
 use Rattle.machine_text.specs.Field.{Found, absent, wrong, given, given_or}
 use Rattle.qccd_base.specs.FirstFailing.{first_failing, NoneFails, IsFirstFailing}
-use Rattle.machine_text.specs.Checks.{Check, spot, known_checks, optional_checks, required_checks, row_checks, trap_names, segment_names, document_names, capacity_in, traps_in, trap_checks, all_trap_checks, end_a_in, end_b_in, ends_in, segments_in, segment_checks, all_segment_checks, times_in, all_time_checks, junctions_in, document_checks}
+use Rattle.machine_text.specs.Checks.{spot, known_checks, optional_checks, required_checks, row_checks, trap_names, segment_names, document_names, capacity_in, traps_in, trap_checks, all_trap_checks, end_a_in, end_b_in, ends_in, segments_in, segment_checks, all_segment_checks, times_in, all_time_checks, junctions_in, document_checks}
 use Rattle.machine_text.specs.Machine.{IsTableOf, Describes, IsDescription, IsMachineOf, IsRefusedParts, IsRefusedField, IsRefusalOf, given_ends, described_times}
 use Rattle.machine_text.proofs.Refusals.{refused-field}
 

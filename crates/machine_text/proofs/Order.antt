@@ -1,5 +1,5 @@
 -- The first check that fails, at the exits of the code and over the fields of the table of times.
-use Rattle.std.proofs.Common.{◌≡◌, ℕ, suc, ◌+◌, true, false, List, [], ◌∷◌, ◌++◌, Option, Some, Result, Ok, Err, IsErrAnd, IfErr, refl, sym, ap, subst}
+use Rattle.std.proofs.Common.{◌≡◌, ℕ, suc, ◌+◌, List, ◌++◌, Option, Some, Result, Ok, Err, IsErrAnd, IfErr, sym, ap, subst}
 use Rattle.std.specs.List.{flat_map, range_with_len}
 use Rattle.qccd_base.proofs.FirstFailing.{first_failing-after, first_failing-at}
 use Rattle.toml.specs.Data.{Data, Members, no_members}
