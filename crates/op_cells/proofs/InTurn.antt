@@ -1,5 +1,5 @@
 -- The resources that a legal operation touches are there, and stand in turn.
-use Rattle.std.proofs.Common.{◌≡◌, ◌≢◌, ℕ, ◌+◌, ◌<◌, Bool, true, false, ◌&&◌, ◌||◌, ◌==◌, nat_lt, if◌then◌else◌, List, [], ◌∷◌, map, length, refl, sym, ◌∙◌, ap, arith, None}
+use Rattle.std.proofs.Common.{◌≡◌, ◌≢◌, ℕ, ◌<◌, Bool, true, false, ◌&&◌, ◌||◌, nat_lt, if◌then◌else◌, List, [], ◌∷◌, map, length, refl, sym, ◌∙◌, arith, None}
 use Rattle.std.specs.List.{AllByRecursion, list_all}
 use Rattle.std.proofs.lemmas.Bool.{and_parts, false≢true, ltb-true, eq-eqb}
 use Rattle.qccd_base.specs.declared.names.Bit.{Bit}
@@ -18,6 +18,7 @@ use Rattle.op_table.specs.Step.{has_trap, has_segment, has_junction}
 use Rattle.op_table.specs.Touch.{touches, named}
 use Rattle.op_table.proofs.Shared.{all_met}
 use Rattle.op_cells.specs.Numbering.{index_of, IsThere}
+use Rattle.op_cells.specs.Placed.{bits_below, placed}
 use Rattle.op_cells.specs.Places.{AreInTurn}
 use Rattle.op_cells.proofs.Rising.{Rising, rising-ascending}
 
@@ -49,24 +50,38 @@ trap_seg m n t g h = let both = and_parts (has_trap m t) (has_segment m g) h in 
 seg_junc : (m : MachineData) (n g j : ℕ) → (has_segment m g && has_junction m j) ≡ true → AllByRecursion (IsThere m n) (res.Seg (segment g) ∷ res.Junc (junction j) ∷ [])
 seg_junc m n g j h = let both = and_parts (has_segment m g) (has_junction m j) h in (ltb-true g (length m.segments) both.0, (ltb-true j m.junctions both.1, tt))
 
--- what a legal operation names is there
-named_there : (m : MachineData) (n : ℕ) (op : OpKind) (cs : List Content) → why_on m n op cs ≡ None → AllByRecursion (IsThere m n) (named op)
-named_there m n (Split t e g) cs legal = trap_seg m n t.0 g.0 (all_met (needs_on m n (Split t e g) cs) legal).0
-named_there m n (Move g) cs legal = (ltb-true g.0 (length m.segments) (all_met (needs_on m n (Move g) cs) legal).0, tt)
-named_there m n (Enter g j) cs legal = seg_junc m n g.0 j.0 (all_met (needs_on m n (Enter g j) cs) legal).0
-named_there m n (Leave j g) cs legal = seg_junc m n g.0 j.0 (all_met (needs_on m n (Leave j g) cs) legal).0
-named_there m n (Merge g t e) cs legal = trap_seg m n t.0 g.0 (all_met (needs_on m n (Merge g t e) cs) legal).0
-named_there m n (Rot t p) cs legal = (ltb-true t.0 (length m.capacities) (all_met (needs_on m n (Rot t p) cs) legal).0, tt)
-named_there m n (GSwap t low high) cs legal = (ltb-true t.0 (length m.capacities) (all_met (needs_on m n (GSwap t low high) cs) legal).0, tt)
-named_there m n (Item number t item at) cs legal =
-    let both = and_parts (has_trap m t.0) (list_all (λ b. nat_lt b.0 n) (bits_of item)) (all_met (needs_on m n (Item number t item at) cs) legal).0 in
+-- what a placed operation names is there
+named_there : (m : MachineData) (n : ℕ) (op : OpKind) → placed m n op ≡ true → AllByRecursion (IsThere m n) (named op)
+named_there m n (Split t e g) is = trap_seg m n t.0 g.0 is
+named_there m n (Move g) is = (ltb-true g.0 (length m.segments) is, tt)
+named_there m n (Enter g j) is = seg_junc m n g.0 j.0 is
+named_there m n (Leave j g) is = seg_junc m n g.0 j.0 is
+named_there m n (Merge g t e) is = trap_seg m n t.0 g.0 is
+named_there m n (Rot t p) is = (ltb-true t.0 (length m.capacities) is, tt)
+named_there m n (GSwap t low high) is = (ltb-true t.0 (length m.capacities) is, tt)
+named_there m n (Item number t item at) is =
+    let both = and_parts (has_trap m t.0) (bits_below n item) is in
     (ltb-true t.0 (length m.capacities) both.0, bits_there m n (bits_of item) both.1)
-named_there m n (Fence number item traps) cs legal =
-    let both = and_parts (list_all (λ t. has_trap m t.0) traps) (list_all (λ b. nat_lt b.0 n) (bits_of item)) (all_met (needs_on m n (Fence number item traps) cs) legal).0 in
-    traps_there m n traps both.0
+named_there m n (Fence number item traps) is =
+    let both = and_parts (list_all (λ t. has_trap m t.0) traps) (bits_below n item) is in traps_there m n traps both.0
+
+pub placed-there : (m : MachineData) (n : ℕ) (op : OpKind) → placed m n op ≡ true → AllByRecursion (IsThere m n) (touches op)
+placed-there m n op is = all_ascending (IsThere m n) (named op) (named_there m n op is)
+
+-- a legal operation is placed
+legal_placed : (m : MachineData) (n : ℕ) (op : OpKind) (cs : List Content) → why_on m n op cs ≡ None → placed m n op ≡ true
+legal_placed m n (Split t e g) cs legal = (all_met (needs_on m n (Split t e g) cs) legal).0
+legal_placed m n (Move g) cs legal = (all_met (needs_on m n (Move g) cs) legal).0
+legal_placed m n (Enter g j) cs legal = (all_met (needs_on m n (Enter g j) cs) legal).0
+legal_placed m n (Leave j g) cs legal = (all_met (needs_on m n (Leave j g) cs) legal).0
+legal_placed m n (Merge g t e) cs legal = (all_met (needs_on m n (Merge g t e) cs) legal).0
+legal_placed m n (Rot t p) cs legal = (all_met (needs_on m n (Rot t p) cs) legal).0
+legal_placed m n (GSwap t low high) cs legal = (all_met (needs_on m n (GSwap t low high) cs) legal).0
+legal_placed m n (Item number t item at) cs legal = (all_met (needs_on m n (Item number t item at) cs) legal).0
+legal_placed m n (Fence number item traps) cs legal = (all_met (needs_on m n (Fence number item traps) cs) legal).0
 
 pub touched-there : (m : MachineData) (n : ℕ) (op : OpKind) (cs : List Content) → why_on m n op cs ≡ None → AllByRecursion (IsThere m n) (touches op)
-touched-there m n op cs legal = all_ascending (IsThere m n) (named op) (named_there m n op cs legal)
+touched-there m n op cs legal = placed-there m n op (legal_placed m n op cs legal)
 
 -- of two resources that are there the one that comes before stands before
 stands_before : (m : MachineData) (n : ℕ) (q r : Res) → IsThere m n q → IsThere m n r → comes_before q r ≡ true → index_of m q < index_of m r

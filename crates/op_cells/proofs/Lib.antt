@@ -1,5 +1,6 @@
 pub mod Adjusting
 pub mod InTurn
+pub mod Legalities
 pub mod Mapped
 pub mod OneRuns
 pub mod Rising

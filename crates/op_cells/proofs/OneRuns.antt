@@ -1,25 +1,24 @@
 -- One operation done in place on all cells.
 use Rattle.std.proofs.Common.{◌≡◌, ◌≢◌, ℕ, zero, suc, ◌+◌, ◌-◌, ◌<◌, ◌≤◌, ◌^◌, Bool, true, List, [], ◌∷◌, ◌++◌, map, take, length, get_or, refl, sym, ◌∙◌, ap, ap₂, subst, arith, Option, Some, None, option_map, slice_get, All, length-append}
 use Rattle.std.specs.List.{AllByRecursion}
-use Rattle.std.proofs.lemmas.List.Elements.{All-from_recursion, recursion_from_All}
+use Rattle.std.proofs.lemmas.List.Elements.{recursion_from_All}
 use Rattle.std.proofs.lemmas.Option.{same_Some, none-some, slice_get_within}
 use Rattle.std.proofs.Math.Seq.{take-append_seam}
 use Rattle.std.proofs.lemmas.Bool.Decides.{nat_tests}
 use Rattle.qccd_base.specs.Greatest.{greatest}
 use Rattle.qccd_base.specs.declared.names.Res.{Res}
-use Rattle.qccd_base.specs.Resource.{among, same_res}
+use Rattle.qccd_base.specs.Resource.{same_res}
 use Rattle.qccd_machine.specs.Machine.{MachineData}
 use Rattle.op_table.specs.declared.kinds.OpKind.{OpKind}
 use Rattle.op_table.specs.declared.contents.Content.{Content}
 use Rattle.op_table.specs.Act.{acted, why_on}
 use Rattle.op_table.specs.Clock.{duration}
 use Rattle.op_table.specs.Contents.{heat_held}
-use Rattle.op_table.specs.Op.{IsOp}
 use Rattle.op_table.specs.Touch.{touches, is_first, is_head}
 use Rattle.op_cells.specs.declared.cells.Cell.{Cell}
 use Rattle.op_cells.specs.declared.cells.Done.{Done}
-use Rattle.op_cells.specs.Acted.{CellData, acted_on, data_of, room_of, with_contents_at, noted_at, start_on, done_on}
-use Rattle.op_cells.specs.Numbering.{index_of, IsThere}
+use Rattle.op_cells.specs.Acted.{CellData, acted_on, data_of, room_of, with_contents_at, noted_at, done_on}
+use Rattle.op_cells.specs.Numbering.{index_of}
 use Rattle.op_cells.specs.OneRun.{read_at, MayRun, Ran}
 use Rattle.op_cells.specs.Places.{adjust, adjust_all, clock_at, content_at, content_or, clock_or, free_from, holding, AreInTurn, AreWithin, HasRoom, HasFirstRoom}
 use Rattle.op_cells.specs.Settled.{IsLegalOn, noted}
@@ -161,8 +160,8 @@ reads_adjusted m (r ∷ rs) (f ∷ fs) (g ∷ gs) cells (d ∷ ds) up alike e =
     let i : ℕ = index_of m r in
     let here : option_map data_of (slice_get cells i) ≡ Some d = head_of (read_at m cells r) (Some d) (map (read_at m cells) rs) (map Some ds) e in
     ap₂ (λ (x : Option CellData) (xs : List (Option CellData)). x ∷ xs)
-        (ap (option_map data_of) (all_other m rs fs (adjust f cells i) i (apart_from m i rs up.0) ∙ adjust-own f cells i) ∙ read_own f g (slice_get cells i) d alike.0 here)
-        (reads_adjusted m rs fs gs (adjust f cells i) ds up.1 alike.1 (reads_other m f cells i rs up.0 ∙ ap (Rattle.std.proofs.Common.drop 1) e))
+    (ap (option_map data_of) (all_other m rs fs (adjust f cells i) i (apart_from m i rs up.0) ∙ adjust-own f cells i) ∙ read_own f g (slice_get cells i) d alike.0 here)
+    (reads_adjusted m rs fs gs (adjust f cells i) ds up.1 alike.1 (reads_other m f cells i rs up.0 ∙ ap (Rattle.std.proofs.Common.drop 1) e))
 
 abbrev data_holding : Content → CellData → CellData
 data_holding x d = record d { content = x }
@@ -226,6 +225,7 @@ first-room m op finish xs old may =
     may_have : (r : Res) → is_first op r ≡ true → (o : Option Cell) → slice_get old (index_of m r) ≡ o → HasRoom o
     may_have r is None at = tt
     may_have r is (Some c) at = may.room r c is at
+
     go : (rs : List Res) → ((r : Res) → is_head rs r ≡ true → HasRoom (slice_get old (index_of m r)))
         → ((i : ℕ) → option_map (λ (c : Cell). c.log.spare) (slice_get (adjust_all m (touches op) (map (λ (r : Res). free_from finish) (touches op)) (adjust_all m (touches op) (map holding xs) old)) i) ≡ option_map (λ (c : Cell). c.log.spare) (slice_get old i))
         → HasFirstRoom m rs (adjust_all m (touches op) (map (λ (r : Res). free_from finish) (touches op)) (adjust_all m (touches op) (map holding xs) old))
@@ -252,13 +252,13 @@ reads_run m k op old ds may reads =
     reads_adjusted m (touches op) (map holding xs) (map data_holding xs) old ds up (alike_holding xs) reads in
     let free = reads_adjusted m (touches op) (map (λ (r : Res). free_from done.finish) (touches op)) (map (λ (r : Res). data_free done.finish) (touches op)) (adjust_all m (touches op) (map holding xs) old) (applied (map data_holding xs) ds) up (alike_free done.finish (touches op)) held in
     let noted_ = reads_adjusted m (touches op) (noted done ∷ []) (data_noted done ∷ [])
-        (adjust_all m (touches op) (map (λ (r : Res). free_from done.finish) (touches op)) (adjust_all m (touches op) (map holding xs) old))
-        (applied (map (λ (r : Res). data_free done.finish) (touches op)) (applied (map data_holding xs) ds)) up ((λ c. refl), tt) free in
+    (adjust_all m (touches op) (map (λ (r : Res). free_from done.finish) (touches op)) (adjust_all m (touches op) (map holding xs) old))
+    (applied (map (λ (r : Res). data_free done.finish) (touches op)) (applied (map data_holding xs) ds)) up ((λ c. refl), tt) free in
     let contents : xs ≡ acted m op (map (λ (d : CellData). d.content) ds) = ap (acted m op) (reads_contents m old (touches op) ds reads) in
     let long : length (touches op) ≡ length ds = reads_long m old (touches op) ds reads in
     let acted_as_long : length xs ≡ length ds = acted_long m op (map (content_at m old) (touches op)) (mapped_long (content_at m old) (touches op)) ∙ long in
     noted_ ∙ ap (map Some) (noted_head done (applied (map (λ (r : Res). data_free done.finish) (touches op)) (applied (map data_holding xs) ds))
-        ∙ ap (noted_at done) (freed_contents done.finish (touches op) xs ds acted_as_long long ∙ ap (λ (ys : List Content). with_contents_at done.finish ys ds) contents))
+    ∙ ap (noted_at done) (freed_contents done.finish (touches op) xs ds acted_as_long long ∙ ap (λ (ys : List Content). with_contents_at done.finish ys ds) contents))
 
 others_run : (m : MachineData) (op : OpKind) (done : Done) (old : List Cell) (i : ℕ) → AllByRecursion (λ q. i ≢ index_of m q) (touches op) → slice_get (run_changed m op done old) i ≡ slice_get old i
 others_run m op done old i apart =

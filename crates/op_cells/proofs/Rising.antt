@@ -1,9 +1,8 @@
 -- Touched resources ascend, so each stands once.
-use Rattle.std.proofs.Common.{◌≡◌, ℕ, ◌+◌, Bool, true, false, ◌&&◌, ◌||◌, ◌==◌, nat_lt, if◌then◌else◌, inl, inr, List, [], ◌∷◌, refl, sym, ◌∙◌, ap, arith}
-use Rattle.std.proofs.lemmas.Bool.{cases_Bool, false≢true}
+use Rattle.std.proofs.Common.{◌≡◌, ℕ, Bool, true, false, ◌&&◌, ◌||◌, ◌==◌, nat_lt, if◌then◌else◌, List, [], ◌∷◌, refl, arith}
 use Rattle.std.proofs.lemmas.Bool.Decides.{nat_tests}
 use Rattle.qccd_base.specs.declared.names.Res.{Res}
-use Rattle.qccd_base.specs.Resource.{among, same_res, comes_before, with_res, ascending, rank_of, number_of}
+use Rattle.qccd_base.specs.Resource.{same_res, comes_before, with_res, ascending, rank_of, number_of}
 use Rattle.std.specs.List.{AllByRecursion}
 
 abbrev pub Rising : List Res → Type 0

@@ -1,5 +1,5 @@
 -- Times that add up within 64 bits.
-use Rattle.std.proofs.Common.{◌≡◌, ℕ, ◌+◌, ◌*◌, ◌^◌, ◌<◌, ◌≤◌, All, arith, lit<, subst, sym}
+use Rattle.std.proofs.Common.{◌≡◌, ℕ, ◌<◌, ◌≤◌, All, arith, lit<, subst, sym}
 use Rattle.std.proofs.lemmas.Nat.{mul-le}
 use Rattle.qccd_base.specs.declared.times.Times.{Times}
 use Rattle.qccd_base.specs.Times.{times_of}

@@ -1,5 +1,5 @@
 -- An operation on its held cells, with clocks and log.
-use Rattle.std.proofs.Common.{◌≡◌, ◌≢◌, ℕ, zero, suc, ◌+◌, ◌-◌, ◌^◌, ◌<◌, ◌≤◌, List, [], ◌∷◌, ◌++◌, map, length, take, get_or, refl, sym, ◌∙◌, ap, ap₂, subst, arith, All, length-append}
+use Rattle.std.proofs.Common.{◌≡◌, ◌≢◌, ℕ, suc, ◌+◌, ◌-◌, ◌^◌, ◌<◌, List, [], ◌∷◌, ◌++◌, map, length, take, refl, sym, ◌∙◌, ap, ap₂, subst, arith, All, length-append}
 use Rattle.std.specs.List.{AllByRecursion}
 use Rattle.std.proofs.lemmas.List.Elements.{All-from_recursion, recursion_from_All}
 use Rattle.qccd_base.specs.Greatest.{greatest}
@@ -18,7 +18,7 @@ use Rattle.op_table.specs.declared.contents.Content.{Content}
 use Rattle.op_cells.specs.declared.cells.Held.{Held}
 use Rattle.op_cells.specs.declared.cells.Done.{Done}
 use Rattle.op_table.specs.Act.{acted}
-use Rattle.op_cells.specs.Settled.{contents_of, with_content, with_contents, freed, noted, noted_first}
+use Rattle.op_cells.specs.Settled.{contents_of, with_content, with_contents, freed, noted_first}
 use Rattle.op_cells.specs.Acted.{CellData, acted_on, with_contents_at, noted_at, start_on}
 use Rattle.op_cells.specs.Acted.{data_of, room_of}
 

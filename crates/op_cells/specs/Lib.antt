@@ -3,6 +3,7 @@ pub mod Kinds
 pub mod Log
 pub mod Numbering
 pub mod OneRun
+pub mod Placed
 pub mod Places
 pub mod Settled
 pub mod Shows

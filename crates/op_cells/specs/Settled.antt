@@ -7,7 +7,6 @@ use Rattle.op_table.specs.Act.{why_on}
 use Rattle.op_cells.specs.declared.cells.Cell.{Cell}
 use Rattle.op_cells.specs.declared.cells.Held.{Held}
 use Rattle.op_cells.specs.declared.cells.Done.{Done}
-use Rattle.op_cells.specs.Log.{LogData}
 
 -- legal on these contents, for some number of bits
 abbrev pub IsLegalOn : MachineData → OpKind → List Content → Type 0

@@ -21,11 +21,7 @@ pub(crate) fn change_one(machine: &Machine, op: &Op, content: &mut Content)
     match op.kind() {
         OpKind::Move { seg: _ } => advance(content),
         OpKind::Rot { trap: _, at } => rotate(content, *at),
-        OpKind::GSwap {
-            trap: _,
-            low,
-            high,
-        } => exchange(content, *low, *high),
+        OpKind::GSwap { trap: _, low, high } => exchange(content, *low, *high),
         OpKind::Split {
             trap: _,
             end: _,

@@ -42,11 +42,7 @@ fn work_of(machine: &Machine, op: &Op) -> Work
             end: _,
         } => Work::Merge,
         OpKind::Rot { trap: _, at: _ } => Work::Rot,
-        OpKind::GSwap {
-            trap: _,
-            low,
-            high,
-        } => Work::GSwap(ions_between(*low, *high)),
+        OpKind::GSwap { trap: _, low, high } => Work::GSwap(ions_between(*low, *high)),
         OpKind::Item {
             number: _,
             trap: _,

@@ -32,11 +32,14 @@ pub fn apply(machine: &Machine, k: u32, op: &Op, held: &mut [Held])
     let start = start_of(held);
     let finish = start + time_of(machine, op);
     act(machine, op, held);
-    settle(held, Done {
-        op: k,
-        start,
-        finish,
-    });
+    settle(
+        held,
+        Done {
+            op: k,
+            start,
+            finish,
+        },
+    );
 }
 
 // The greatest time at which one of the cells is free.

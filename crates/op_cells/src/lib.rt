@@ -8,9 +8,12 @@ mod durations;
 mod effects;
 mod ends;
 mod held;
+mod legality;
 mod numbering;
+mod places;
 mod running;
 
 pub use cells::{Cell, Cells, Done, Held, run_one};
 pub use done_list::DoneList;
 pub use held::apply;
+pub use legality::legal;

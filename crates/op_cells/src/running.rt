@@ -32,11 +32,16 @@ pub(crate) fn run_on(machine: &Machine, k: u32, op: &Op, cells: &mut [Cell])
     let finish = start + time_of(machine, op);
     act_at(machine, op, cells);
     free_all_at(machine, touched, cells, finish);
-    note_first_at(machine, touched, cells, Done {
-        op: k,
-        start,
-        finish,
-    });
+    note_first_at(
+        machine,
+        touched,
+        cells,
+        Done {
+            op: k,
+            start,
+            finish,
+        },
+    );
 }
 
 // The greatest time at which one of the resources is free.

@@ -5,4 +5,4 @@ use Rattle.op_cells.proofs.cells.run_one.Goals as goal
 pub returns : goal.returns
 returns c =
     ran-kept c.args.machine.now c.args.k c.args.op.now c.args.cells.now c.as_mut_slice.result.now c.run_on.new.cells (drop (length c.run_on.new.cells) c.cells.inside.cells.items) c.cells.inside.cells.len
-        (c.as_mut_slice.ensures.value ∙ c.cells.view_is) c.as_mut_slice.ensures.len c.run_on.ensures
+    (c.as_mut_slice.ensures.value ∙ c.cells.view_is) c.as_mut_slice.ensures.len c.run_on.ensures

@@ -1,5 +1,4 @@
 use Rattle.std.proofs.Common.{subst, [], ◌∷◌}
-use Rattle.op_table.specs.declared.kinds.OpKind.{OpKind}
 use Rattle.op_cells.proofs.Rooms.{merge_room}
 use Rattle.op_cells.proofs.changes.change_two.Goals as goal
 

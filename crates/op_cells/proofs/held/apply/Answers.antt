@@ -1,8 +1,6 @@
-use Rattle.std.proofs.Common.{◌+◌, ◌<◌, ◌^◌, ◌≡◌, arith, map}
-use Rattle.qccd_base.specs.Greatest.{greatest}
+use Rattle.std.proofs.Common.{◌+◌, arith}
 use Rattle.op_table.specs.Act.{acted}
 use Rattle.op_cells.specs.Settled.{contents_of}
-use Rattle.op_cells.specs.declared.cells.Held.{Held}
 use Rattle.op_cells.proofs.Wholes.{greatest-small, held-some, room-left, whole-cells, whole-names, whole-rooms}
 use Rattle.op_cells.proofs.held.apply.Goals as goal
 
@@ -22,9 +20,9 @@ returns-clause-cells c =
 pub returns-clause-names : goal.returns-clause-names
 returns-clause-names c =
     whole-names (c.start_of-start.result + c.time_of.result) (record { op = c.args.k; start = c.start_of-start.result; finish = c.start_of-start.result + c.time_of.result })
-        (acted c.args.machine.now c.args.op.now (contents_of c.args.held.now)) c.args.held.now c.act.new.held c.settle.new.held c.act.ensures c.settle.ensures
+    (acted c.args.machine.now c.args.op.now (contents_of c.args.held.now)) c.args.held.now c.act.new.held c.settle.new.held c.act.ensures c.settle.ensures
 
 pub returns-clause-room : goal.returns-clause-room
 returns-clause-room c =
     whole-rooms (c.start_of-start.result + c.time_of.result) (record { op = c.args.k; start = c.start_of-start.result; finish = c.start_of-start.result + c.time_of.result })
-        (acted c.args.machine.now c.args.op.now (contents_of c.args.held.now)) c.args.held.now c.act.new.held c.settle.new.held c.requires.room c.act.ensures c.settle.ensures
+    (acted c.args.machine.now c.args.op.now (contents_of c.args.held.now)) c.args.held.now c.act.new.held c.settle.new.held c.requires.room c.act.ensures c.settle.ensures

@@ -1,4 +1,4 @@
-use Rattle.std.proofs.Common.{◌<◌, length, arith, ◌≡◌, map, take, drop, ◌++◌}
+use Rattle.std.proofs.Common.{◌<◌, length, arith}
 use Rattle.op_cells.specs.Settled.{freed}
 use Rattle.op_cells.proofs.Mapped.{mapped-step}
 use Rattle.op_cells.proofs.held.free_all.Goals as goal

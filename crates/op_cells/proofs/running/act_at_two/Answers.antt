@@ -1,8 +1,7 @@
-use Rattle.std.proofs.Common.{◌≡◌, ℕ, ◌<◌, ◌^◌, None, [], ◌∷◌, ap₂, sym, ◌∙◌, subst}
+use Rattle.std.proofs.Common.{◌<◌, ◌^◌, [], ◌∷◌, ap₂, sym, ◌∙◌, subst}
 use Rattle.op_table.specs.declared.contents.Content.{Content}
 use Rattle.op_table.specs.Act.{why_on}
 use Rattle.op_table.specs.Contents.{heat_held}
-use Rattle.op_cells.specs.Settled.{IsLegalOn}
 use Rattle.op_cells.proofs.Adjusting.{back_content, front_content, two-adjusted}
 use Rattle.op_cells.proofs.running.act_at_two.Goals as goal
 
@@ -24,4 +23,4 @@ change_two-requires-clause-second_heat c =
 pub returns : goal.returns
 returns c =
     two-adjusted c.args.machine.now c.args.op.now c.args.cells.now c.split_at_mut-front.result.0.now c.split_at_mut-front.result.1.now c.args.low c.args.high c.index-front-low.result c.index-back-0.result c.change_two.new.first c.change_two.new.second
-        c.split_at_mut-front.ensures.front c.split_at_mut-front.ensures.back c.requires.order c.requires.within c.change_two.ensures
+    c.split_at_mut-front.ensures.front c.split_at_mut-front.ensures.back c.requires.order c.requires.within c.change_two.ensures

@@ -1,4 +1,3 @@
-use Rattle.std.proofs.Common.{◌≡◌, ◌∙◌, ap, List}
 use Rattle.op_cells.proofs.Adjusting.{noted-first}
 use Rattle.op_cells.proofs.running.note_first_at.Goals as goal
 

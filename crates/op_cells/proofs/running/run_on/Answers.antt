@@ -1,11 +1,10 @@
-use Rattle.std.proofs.Common.{◌≡◌, ◌+◌, ◌<◌, ◌^◌, List, [], ◌∷◌, map, length, sym, ◌∙◌, ap, subst, arith}
+use Rattle.std.proofs.Common.{◌+◌, List, [], ◌∷◌, map, length, sym, ◌∙◌, ap, subst, arith}
 use Rattle.qccd_base.specs.Greatest.{greatest}
 use Rattle.qccd_base.specs.declared.names.Res.{Res}
 use Rattle.op_table.specs.Act.{acted}
 use Rattle.op_table.specs.Touch.{touches}
-use Rattle.op_cells.specs.declared.cells.Cell.{Cell}
 use Rattle.op_cells.specs.declared.cells.Done.{Done}
-use Rattle.op_cells.specs.Places.{adjust_all, clock_at, content_at, free_from, holding, AreWithin, HasFirstRoom}
+use Rattle.op_cells.specs.Places.{adjust_all, clock_at, content_at, free_from, holding, AreWithin}
 use Rattle.op_cells.specs.Settled.{noted}
 use Rattle.op_cells.proofs.OneRuns.{free-read, heats, in_turn, legal, ran, room-read, start-small, within, within-after}
 use Rattle.op_cells.proofs.running.run_on.Goals as goal
@@ -38,7 +37,7 @@ free_all_at-requires c =
     let op = c.args.op.now in
     let old = c.args.cells.now in
     subst (AreWithin machine (length c.act_at.new.cells)) (sym c.touches-touched.ensures)
-        (within-after machine op (map holding (acted machine op (map (content_at machine old) (touches op)))) old c.act_at.new.cells c.act_at.ensures (within machine op old c.requires))
+    (within-after machine op (map holding (acted machine op (map (content_at machine old) (touches op)))) old c.act_at.new.cells c.act_at.ensures (within machine op old c.requires))
 
 pub note_first_at-requires-clause-within : goal.note_first_at-requires-clause-within
 note_first_at-requires-clause-within c =
@@ -48,8 +47,8 @@ note_first_at-requires-clause-within c =
     let finish = c.start_at-start.result + c.time_of.result in
     let mid = within-after machine op (map holding (acted machine op (map (content_at machine old) (touches op)))) old c.act_at.new.cells c.act_at.ensures (within machine op old c.requires) in
     subst (AreWithin machine (length c.free_all_at.new.cells)) (sym c.touches-touched.ensures)
-        (within-after machine op (map (λ (r : Res). free_from finish) (touches op)) c.act_at.new.cells c.free_all_at.new.cells
-            (free-read machine op c.touches-touched.result.now c.act_at.new.cells c.free_all_at.new.cells finish c.touches-touched.ensures c.free_all_at.ensures) mid)
+    (within-after machine op (map (λ (r : Res). free_from finish) (touches op)) c.act_at.new.cells c.free_all_at.new.cells
+    (free-read machine op c.touches-touched.result.now c.act_at.new.cells c.free_all_at.new.cells finish c.touches-touched.ensures c.free_all_at.ensures) mid)
 
 pub note_first_at-requires-clause-room : goal.note_first_at-requires-clause-room
 note_first_at-requires-clause-room c =
@@ -57,7 +56,7 @@ note_first_at-requires-clause-room c =
     let op = c.args.op.now in
     let finish = c.start_at-start.result + c.time_of.result in
     room-read machine op c.touches-touched.result.now c.args.cells.now c.act_at.new.cells c.free_all_at.new.cells finish c.touches-touched.ensures c.requires c.act_at.ensures
-        (free-read machine op c.touches-touched.result.now c.act_at.new.cells c.free_all_at.new.cells finish c.touches-touched.ensures c.free_all_at.ensures)
+    (free-read machine op c.touches-touched.result.now c.act_at.new.cells c.free_all_at.new.cells finish c.touches-touched.ensures c.free_all_at.ensures)
 
 pub returns : goal.returns
 returns c =
@@ -68,6 +67,6 @@ returns c =
     let finish = c.start_at-start.result + c.time_of.result in
     let done : Done = record { op = c.args.k; start = c.start_at-start.result; finish = finish } in
     ran machine c.args.k op old c.act_at.new.cells c.free_all_at.new.cells c.note_first_at.new.cells c.start_at-start.result c.time_of.result c.requires
-        (c.start_at-start.ensures ∙ ap (λ (rs : List Res). greatest (map (clock_at machine old) rs)) c.touches-touched.ensures) c.time_of.ensures.value c.act_at.ensures
-        (free-read machine op ts c.act_at.new.cells c.free_all_at.new.cells finish c.touches-touched.ensures c.free_all_at.ensures)
-        (c.note_first_at.ensures ∙ ap (λ (rs : List Res). adjust_all machine rs (noted done ∷ []) c.free_all_at.new.cells) c.touches-touched.ensures)
+    (c.start_at-start.ensures ∙ ap (λ (rs : List Res). greatest (map (clock_at machine old) rs)) c.touches-touched.ensures) c.time_of.ensures.value c.act_at.ensures
+    (free-read machine op ts c.act_at.new.cells c.free_all_at.new.cells finish c.touches-touched.ensures c.free_all_at.ensures)
+    (c.note_first_at.ensures ∙ ap (λ (rs : List Res). adjust_all machine rs (noted done ∷ []) c.free_all_at.new.cells) c.touches-touched.ensures)
