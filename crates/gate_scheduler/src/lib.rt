@@ -1,0 +1,10 @@
+//! In which order the items of a circuit are compiled.
+#![tactic(auto)]
+
+pub mod laws;
+mod schedule;
+
+pub use schedule::order;
+
+#[cfg(test)]
+mod tests;
