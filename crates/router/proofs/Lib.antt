@@ -1,0 +1,5 @@
+pub mod Search
+pub mod Walks
+pub mod Along
+pub mod LeastPath
+pub mod Distances

@@ -1,0 +1,4 @@
+pub mod Wiring
+pub mod Paths
+pub mod Hops
+pub mod Wired
