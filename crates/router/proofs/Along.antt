@@ -1,5 +1,5 @@
 -- A segment that is gone along: it is there, and so are both its ends.
-use Rattle.std.proofs.Common.{◌≡◌, ℕ, ◌<◌, Bool, true, false, length, subst, sym, ◌∙◌, ap, Option, Some, None, inl, inr, arith}
+use Rattle.std.proofs.Common.{◌≡◌, ℕ, ◌<◌, ◌≤◌, Bool, true, false, length, subst, sym, ◌∙◌, ap, Option, Some, None, inl, inr, arith}
 use Rattle.std.specs.Prelude.{slice_get, ◌≢◌}
 use Rattle.std.proofs.lemmas.Bool.{cases_Bool}
 use Rattle.std.proofs.lemmas.Option.{slice_get_cases, same_Some, none-some}
@@ -10,6 +10,7 @@ use Rattle.qccd_machine.specs.declared.place.Place.TheVariants.{TrapEnd, Junctio
 use Rattle.qccd_machine.specs.Machine.{MachineData, IsValid, IsThere, site}
 use Rattle.router.specs.Wiring.{WiringData, wiring_of, IsWiring}
 use Rattle.router.specs.Paths.{turned, way_along}
+use Rattle.router.specs.Steps.{HasCount}
 
 -- the place is at a trap or a junction that is there
 abbrev pub IsPart : WiringData → Place → Type 0
@@ -74,3 +75,11 @@ way_there w from g ends way = elim (slice_get_cases w.segments g).1 [
   | inl (own, within, is, read) ↦ within
   | inr (past, is) ↦ absurd (let bad : None ≡ Some ends = rw is at way in cc)
 ]
+
+-- there are counts for all parts of a machine
+pub few_parts : (w : WiringData) → IsWiring w → (w.traps ≤ 32) × (w.junctions ≤ 64) × (length w.segments ≤ 128)
+few_parts w wiring = subst (λ (x : WiringData). (x.traps ≤ 32) × (x.junctions ≤ 64) × (length x.segments ≤ 128)) wiring.is (wiring.valid.few_traps, wiring.valid.few_junctions, wiring.valid.few_segments)
+
+pub counted : (w : WiringData) (p : Place) → IsWiring w → IsPart w p → HasCount p
+counted w (TrapEnd t e) wiring there = omega (arith, there, (few_parts w wiring).0)
+counted w (Junction j) wiring there = omega (arith, there, (few_parts w wiring).1)

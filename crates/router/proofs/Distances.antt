@@ -50,7 +50,7 @@ Nears w b (res.Bit n) = Unit {0}
 same_res_own : (r : Res) → same_res r r ≡ true
 same_res_own r = and_from (rank_of r == rank_of r) (number_of r == number_of r) (eq-eqb (rank_of r) (rank_of r) refl) (eq-eqb (number_of r) (number_of r) refl)
 
-same_res-true : (a b : Res) → same_res a b ≡ true → a ≡ b
+pub same_res-true : (a b : Res) → same_res a b ≡ true → a ≡ b
 same_res-true (res.Trap t) (res.Trap u) h = ap (λ (n : ℕ). res.Trap (trap n)) (eqb-true t.0 u.0 h)
 same_res-true (res.Trap t) (res.Seg u) h = cc
 same_res-true (res.Trap t) (res.Junc u) h = cc

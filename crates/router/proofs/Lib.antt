@@ -3,3 +3,4 @@ pub mod Walks
 pub mod Along
 pub mod LeastPath
 pub mod Distances
+pub mod Rounds

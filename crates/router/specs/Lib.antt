@@ -1,4 +1,5 @@
 pub mod Wiring
 pub mod Paths
 pub mod Hops
+pub mod Steps
 pub mod Wired
