@@ -4,3 +4,5 @@ pub mod Along
 pub mod LeastPath
 pub mod Distances
 pub mod Rounds
+pub mod Following
+pub mod Tabled

@@ -44,7 +44,7 @@ any_more p n = let same : 0 + n ≡ n = omega arith in ap (list_any p) (range_mo
 pub find_more : (p : ℕ → Bool) (a n : ℕ) → find p (range_with_len a (suc n)) ≡ option_or (find p (range_with_len a n)) (cond (p (a + n)) (Some (a + n)) None)
 find_more p a n = ap (find p) (range_more a n) ∙ find-append p (range_with_len a n) ((a + n) ∷ [])
 
-some_first : {X : Type 0} (f : ℕ → Option X) (ks : List ℕ) → is_some (first_of f ks) ≡ list_any (λ k. is_some (f k)) ks
+pub some_first : {X : Type 0} (f : ℕ → Option X) (ks : List ℕ) → is_some (first_of f ks) ≡ list_any (λ k. is_some (f k)) ks
 some_first f [] = refl
 some_first f (k ∷ ks) = elim (cases_Bool (is_some (f k))) [ inl is ↦ rw is is | inr not_k ↦ rw not_k (some_first f ks) ]
 

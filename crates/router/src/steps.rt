@@ -61,6 +61,17 @@ impl Steps {
         }
     }
 
+    /// How many segments lead to the trap from the place, where some do.
+    pub fn at(&self, place: Place) -> Option<u8>
+        requires { HasCount place }
+        ensures { result ≡ steps_at self.now place }
+    {
+        match place {
+            Place::TrapEnd(trap, _) => self.traps[usize::from(trap.0)],
+            Place::Junction(junction) => self.junctions[usize::from(junction.0)],
+        }
+    }
+
     /// Whether so many segments, at the least, lead on to the trap from the far end of a segment.
     pub fn leads_on(&self, far: Place, to: TrapId, left: u8) -> bool
         requires { HasCount far }
@@ -73,8 +84,8 @@ impl Steps {
     }
 }
 
-// Notes the count where there is none.
-fn note(place: &mut Option<u8>, count: u8)
+/// Notes the count where there is none.
+pub(crate) fn note(place: &mut Option<u8>, count: u8)
     ensures { place.new ≡ option_or place.old (Some count) }
 {
     if place.is_none() {
@@ -82,8 +93,8 @@ fn note(place: &mut Option<u8>, count: u8)
     }
 }
 
-// Whether the number is known to be this one.
-fn is_at(known: Option<u8>, number: u8) -> bool
+/// Whether the number is known to be this one.
+pub(crate) fn is_at(known: Option<u8>, number: u8) -> bool
     ensures { result ≡ is_at known number }
 {
     match known {
