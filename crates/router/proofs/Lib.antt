@@ -6,3 +6,5 @@ pub mod Distances
 pub mod Rounds
 pub mod Following
 pub mod Tabled
+pub mod Hopping
+pub mod Reading

@@ -1,7 +1,7 @@
 //! Distances and next hops. Found by rounds over neighbours: in each those traps are reached that have a neighbour
 //! that the round before has reached.
 
-ghost use Rattle.std.specs.Prelude.{◌≡◌, ◌+◌, ◌<◌, ◌≤◌, ◌≢◌, ℕ, IfOk, Some, if◌then◌else◌, length, slice_get};
+ghost use Rattle.std.specs.Prelude.{◌≡◌, ◌+◌, ◌<◌, ◌≤◌, ◌≢◌, ℕ, IfOk, Some, if◌then◌else◌, length, slice_get, unwrap_or};
 ghost use Rattle.std.specs.Option.{option_or};
 ghost use Rattle.router.specs.Steps.{is_at};
 ghost use Rattle.router.specs.Counts.{AreCounts, count_at, near};
@@ -88,6 +88,18 @@ impl Counts {
         None
     }
 
+    // How many hops lead on from the trap, and 0 where no number is known.
+    fn count(&self, wiring: &Wiring, trap: TrapId) -> u8
+        requires { trap.0 < wiring.now.traps }
+        ensures { result ≡ unwrap_or (count_at self.now trap.0) 0 }
+    {
+        let _traps = wiring.traps();
+        match self.traps[usize::from(trap.0)] {
+            Some(count) => count,
+            None => 0,
+        }
+    }
+
     // Whether so many hops lead on from the trap.
     fn is_at(&self, wiring: &Wiring, trap: TrapId, count: u8) -> bool
         requires { trap.0 < wiring.now.traps }
@@ -131,15 +143,15 @@ impl Hop {
         ensures { result ≡ hop_of wiring.now to.0 from.0 }
     {
         let _traps = wiring.traps();
-        match counts.traps[usize::from(from.0)] {
-            Some(count) if count > 0 => Hop {
-                distance: u32::from(count),
-                next: counts.near(wiring, paths, from, count - 1),
-            },
-            _ => Hop {
-                distance: 0,
-                next: None,
-            },
+        let count = counts.count(wiring, from);
+        let next = if count == 0 {
+            None
+        } else {
+            counts.near(wiring, paths, from, count - 1)
+        };
+        Hop {
+            distance: u32::from(count),
+            next,
         }
     }
 }

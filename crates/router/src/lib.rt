@@ -9,3 +9,5 @@ mod steps;
 mod wiring;
 pub mod worked;
 
+pub use routes::Routes;
+

@@ -1,0 +1,7 @@
+use Rattle.router.specs.Tables.{hops_to}
+use Rattle.router.proofs.Tabled.{entry_more}
+use Rattle.router.proofs.routes.hops_of.Goals as goal
+
+pub loop-number-preserved : goal.loop-number-preserved
+loop-number-preserved c =
+    entry_more (hops_to c.args.wiring.now) c.loop-number.number c.loop-number.hops.items c.push.new.self.items c.in_ok-to.to c.loop-number.invariant c.in_ok-push.ensures.items c.in_ok-to.ensures
