@@ -3,8 +3,8 @@
 
 use qccd_base::NoMemory;
 use qccd_io::{FileShelf, NoPost, StdSink};
+use qccd_refusals::{Refusal, tell};
 use qccd_top::run;
-use qccd_words::{Refusal, tell};
 use std::env;
 use std::io::ErrorKind;
 use std::process::ExitCode;

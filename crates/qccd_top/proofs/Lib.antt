@@ -1,3 +1,6 @@
-pub mod Capacities
-pub mod Faithfully
+pub mod Chain
+pub mod Single
 pub mod Dues
+pub mod Circuits
+pub mod Judged
+pub mod Headline

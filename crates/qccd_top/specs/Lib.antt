@@ -1,6 +1,6 @@
-pub mod Asking
-pub mod Faithful
-pub mod Causes
-pub mod Report
-pub mod Answer
-pub mod Due
+pub mod Stage
+pub mod Stages
+pub mod Means
+pub mod Call
+pub mod Done
+pub mod Headline

@@ -1,11 +1,13 @@
-//! The top call: from the words of the command line to the report.
+//! The top call: from the words of the command line to what is written.
 #![tactic(auto)]
 
-mod asked;
-mod input;
+mod answer;
+mod limits;
 mod output;
-#[cfg(test)]
-mod tests;
+mod program;
+mod stages;
 mod top;
 
+pub use limits::{CIRCUIT_LIMIT, MACHINE_LIMIT, PROGRAM_LIMIT};
+pub use qccd_words::{Command, MachineWord, request};
 pub use top::{Status, run};

@@ -1,11 +1,15 @@
 -- The capacity that a preset's word names.
-use Rattle.std.proofs.Common.{◌≡◌, ◌≢◌, ◌↔◌, ℕ, zero, suc, ◌+◌, ◌<◌, ◌≤◌, Bool, true, false, List, [], ◌∷◌, ◌++◌, length, ◌==◌, Option, Some, None, IfSome, find, codes, decimal, refl, sym, ap, ◌∙◌, arith}
+use Rattle.std.proofs.Common.{◌≡◌, ◌≢◌, ◌↔◌, ℕ, zero, suc, ◌+◌, ◌<◌, ◌≤◌, Bool, true, false, List, [], ◌∷◌, ◌++◌, length, ◌==◌, Option, Some, None, IfSome, find, cond, option_map, subst, codes, decimal, refl, sym, ap, ◌∙◌, arith}
 use Rattle.std.specs.List.{range_with_len}
 use Rattle.std.specs.Str.{bytes_eq}
 use Rattle.std.proofs.lemmas.Fmt.{decimal_injective}
 use Rattle.std.proofs.lemmas.List.{append_cancel_left, append-nil}
 use Rattle.std.proofs.lemmas.Slice.Eq.{bytes_eq-Decides}
-use Rattle.qccd_words.specs.Words.{capacities, capacity_after}
+use Rattle.qccd_base.specs.declared.names.Mode.{Mode}
+use Rattle.qccd_base.specs.declared.names.Mode.TheVariants.{IonSwap}
+use Rattle.qccd_machine.specs.declared.place.Preset.{Preset}
+use Rattle.qccd_machine.specs.declared.place.Preset.TheVariants.{L6, G2x3, Single}
+use Rattle.qccd_words.specs.Words.{AskedMachine, OfPreset, OfFile, AskedRun, capacities, capacity_after, first_of, preset_named, begins_with_at, machine_of, request_of, HasCapacity}
 
 -- ---- the first number of a range that does
 
@@ -108,3 +112,60 @@ capacity-given name word rest digits None is colon exact some =
 capacity-given name word rest digits (Some k) is colon exact some =
     sym (one_of name word k (longer name word rest is (λ empty. cc)) some.0 some.1
     (is ∙ ap (λ (t : List ℕ). name ++ t) (colon ∙ ap (λ (t : List ℕ). codes ":" ++ t) some.2)))
+
+-- ---- what the words ask for
+
+found_step : (b : Bool) (a n x : ℕ) (rest : Option ℕ) → cond b (Some a) rest ≡ Some x → (rest ≡ Some x → (a + 1 ≤ x) × (x < (a + 1) + n)) → (a ≤ x) × (x < a + suc n)
+found_step true a n x rest is later = let same : a ≡ x = cc in (omega arith, omega arith)
+found_step false a n x rest is later = let bounds = later is in (omega arith, omega arith)
+
+found_range : (p : ℕ → Bool) (a n x : ℕ) → find p (range_with_len a n) ≡ Some x → (a ≤ x) × (x < a + n)
+found_range p a zero x is = absurd (cc)
+found_range p a (suc n) x is = found_step (p a) a n x (find p (range_with_len (a + 1) n)) is (found_range p (a + 1) n x)
+
+found_capacity : (p : ℕ → Bool) (x : ℕ) → find p capacities ≡ Some x → (2 ≤ x) × (x ≤ 32)
+unfolding capacities
+found_capacity p x is = let bounds = found_range p 2 31 x is in (bounds.0, omega (arith, bounds.1))
+
+capacity_step : (b : Bool) (x : ℕ) (rest : Option ℕ) → cond b (Some 16) rest ≡ Some x → (rest ≡ Some x → (2 ≤ x) × (x ≤ 32)) → (2 ≤ x) × (x ≤ 32)
+capacity_step true x rest is later = let same : 16 ≡ x = cc in (omega arith, omega arith)
+capacity_step false x rest is later = later is
+
+capacity_bounds : (name word : List ℕ) (x : ℕ) → capacity_after name word ≡ Some x → (2 ≤ x) × (x ≤ 32)
+capacity_bounds name word x is =
+    capacity_step (bytes_eq word name) x (find (λ c. bytes_eq word (name ++ (codes ":" ++ decimal c))) capacities) is
+    (found_capacity (λ c. bytes_eq word (name ++ (codes ":" ++ decimal c))) x)
+
+-- a preset's machine has the capacity that was found
+preset_bounds : (which : Preset) (o : Option ℕ) (m : AskedMachine) → ((x : ℕ) → o ≡ Some x → (2 ≤ x) × (x ≤ 32)) → option_map (OfPreset which) o ≡ Some m → HasCapacity m
+preset_bounds which None m bounds is = absurd (cc)
+preset_bounds which (Some x) m bounds is = let same : OfPreset which x ≡ m = cc in subst HasCapacity same (bounds x refl)
+
+either_bounds : (o p : Option AskedMachine) (m : AskedMachine) → (o ≡ Some m → HasCapacity m) → (p ≡ Some m → HasCapacity m) → first_of o p ≡ Some m → HasCapacity m
+either_bounds None p m here later is = later is
+either_bounds (Some n) p m here later is = here is
+
+named_bounds : (word : List ℕ) (m : AskedMachine) → preset_named word ≡ Some m → HasCapacity m
+named_bounds word m is =
+    either_bounds _ _ m (preset_bounds L6 (capacity_after (codes "@L6") word) m (capacity_bounds (codes "@L6") word))
+    (either_bounds _ _ m (preset_bounds G2x3 (capacity_after (codes "@G2x3") word) m (capacity_bounds (codes "@G2x3") word))
+    (preset_bounds Single (capacity_after (codes "@single") word) m (capacity_bounds (codes "@single") word))) is
+
+machine_bounds : (b : Bool) (word : List ℕ) (m : AskedMachine) → cond b (preset_named word) (Some (OfFile word)) ≡ Some m → HasCapacity m
+machine_bounds true word m is = named_bounds word m is
+machine_bounds false word m is = let same : OfFile word ≡ m = cc in subst HasCapacity same tt
+
+run_bounds : (b : Bool) (o : Option AskedMachine) (circuit name : List ℕ) (m : AskedMachine) (workers : ℕ) (mode : Mode) → ((n : AskedMachine) → o ≡ Some n → HasCapacity n)
+    → cond b (option_map (λ n. AskedRun n circuit 4 IonSwap) o) None ≡ Some (AskedRun m name workers mode) → HasCapacity m
+run_bounds true None circuit name m workers mode bounds is = absurd (cc)
+run_bounds true (Some n) circuit name m workers mode bounds is = let same : n ≡ m = cc in subst HasCapacity same (bounds n refl)
+run_bounds false o circuit name m workers mode bounds is = absurd (cc)
+
+-- a machine that is asked for by name has a capacity from 2 to 32
+pub asked_capacity : (words : List (List ℕ)) (m : AskedMachine) (name : List ℕ) (workers : ℕ) (mode : Mode) → request_of words ≡ Some (AskedRun m name workers mode) → HasCapacity m
+asked_capacity [] m name workers mode is = absurd (cc)
+asked_capacity (a ∷ []) m name workers mode is = absurd (cc)
+asked_capacity (a ∷ b ∷ []) m name workers mode is = absurd (cc)
+asked_capacity (command ∷ machine ∷ circuit ∷ []) m name workers mode is =
+    run_bounds (bytes_eq command (codes "run")) (machine_of machine) circuit name m workers mode (machine_bounds (begins_with_at machine) machine) is
+asked_capacity (a ∷ b ∷ c ∷ d ∷ more) m name workers mode is = absurd (cc)

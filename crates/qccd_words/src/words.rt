@@ -1,7 +1,7 @@
 //! What the words of the command line ask for.
 
 ghost use Rattle.std.specs.Prelude.{◌≡◌, ℕ, ◌≤◌, ◌↔◌, map, Some, IfSome, option_map, string_bytes, decimal};
-ghost use Rattle.qccd_words.specs.Words.{asked, machine_asked, capacity_after, machine_of, request_of};
+ghost use Rattle.qccd_words.specs.Words.{asked, machine_asked, capacity_after, preset_named, machine_of, request_of, HasCapacity, HasCapacityAsked};
 
 use qccd_base::{Mode, read_number};
 use qccd_machine::Preset;
@@ -39,11 +39,13 @@ pub enum Command<'a> {
 /// What the words ask for, or `None` where they are of no form that is known. The words are those
 /// after the program's own name. It takes no memory.
 ///
-/// For now one form is known, `run MACHINE CIRCUIT`. The machine is `@single`, or `@single:C` with a
-/// number C from 2 to 32 that has no sign and no leading zero. The circuit is any word as it stands,
-/// an empty one too.
+/// For now one form is known, `run MACHINE CIRCUIT`. The machine is `@L6`, `@G2x3` or `@single`, or
+/// one of these with a colon and a capacity from 2 to 32 that has no sign and no leading zero, or any
+/// word that does not begin with `@`, which is the name of a file. The circuit is any word as it
+/// stands. An empty word is the name of a file, too.
 pub fn request(words: &[String]) -> Option<Command<'_>>
-    ensures { option_map asked result ≡ request_of (map string_bytes words.now) }
+    ensures asked { option_map asked result ≡ request_of (map string_bytes words.now) }
+    ensures capacity { IfSome result HasCapacityAsked }
 {
     match words {
         [command, machine, circuit] if command.as_str() == "run" => Some(Command::Run {
@@ -58,15 +60,35 @@ pub fn request(words: &[String]) -> Option<Command<'_>>
 
 // The machine that the word names.
 fn machine_word(word: &str) -> Option<MachineWord<'_>>
-    ensures { option_map machine_asked result ≡ machine_of word.now }
+    ensures asked { option_map machine_asked result ≡ machine_of word.now }
+    ensures capacity { IfSome result (λ m. HasCapacity (machine_asked m)) }
 {
-    let capacity = capacity_word(b"@single", word.as_bytes())?;
+    if word.as_bytes().first() == Some(&b'@') {
+        preset_word(word.as_bytes())
+    } else {
+        Some(MachineWord::File(word))
+    }
+}
+
+// The machine that is known by the word.
+fn preset_word<'a>(word: &[u8]) -> Option<MachineWord<'a>>
+    ensures asked { option_map machine_asked result ≡ preset_named word.now }
+    ensures capacity { IfSome result (λ m. HasCapacity (machine_asked m)) }
+{
+    if let Some(capacity) = capacity_word(b"@L6", word) {
+        return Some(MachineWord::Preset(Preset::L6, capacity));
+    }
+    if let Some(capacity) = capacity_word(b"@G2x3", word) {
+        return Some(MachineWord::Preset(Preset::G2x3, capacity));
+    }
+    let capacity = capacity_word(b"@single", word)?;
     Some(MachineWord::Preset(Preset::Single, capacity))
 }
 
 // The capacity that stands after the preset's name and a colon, or the usual one after the name alone.
 fn capacity_word(name: &[u8], word: &[u8]) -> Option<u8>
-    ensures { result ≡ capacity_after name.now word.now }
+    ensures capacity { result ≡ capacity_after name.now word.now }
+    ensures within { IfSome result (λ n. (2 ≤ n) × (n ≤ 32)) }
 {
     let rest = word.strip_prefix(name)?;
     if rest.is_empty() {

@@ -1,27 +1,31 @@
-use Rattle.std.proofs.Common.{map, Global, Option, subst, inl}
-use Rattle.std.specs.Prelude.{string_bytes}
-use Rattle.qccd_io.specs.Faults.{Rose}
-use Rattle.qccd_io.specs.Shelf.{Holding}
-use Rattle.qccd_top.specs.Causes.{IsCause, IsDone}
-use Rattle.qccd_top.proofs.Dues.{done_due, cause_due, stayed}
+use Rattle.std.proofs.Common.{◌∙◌, sym, ap}
+use Rattle.qccd_refusals.specs.Cause.{status_of}
+use Rattle.qccd_top.specs.Call.{call_of, output}
+use Rattle.qccd_top.proofs.Dues.{done_exact, refused_exact}
+use Rattle.qccd_top.proofs.Headline.{headline, cut}
+use Rattle.qccd_top.proofs.Judged.{words_cause}
 use Rattle.qccd_top.proofs.top.run.Goals as goal
 
+pub returns-in-Err-clause-words : goal.returns-in-Err-clause-words
+returns-in-Err-clause-words g c =
+    let call = call_of g.F.Shelf.told g.F.Shelf.faults c.args.words.now c.args.shelf.now c.answer.new.shelf (output g.O.Sink.taken g.O.Sink.faults c.args.out.now c.answer.new.out) in (
+      λ two. words_cause call _ c.in-Err.ensures.does.did (sym c.status-status.ensures ∙ two),
+      λ none. c.status-status.ensures ∙ ap status_of (c.in-Err.ensures.words none),
+    )
+
+pub returns-in-Ok-clause-headline : goal.returns-in-Ok-clause-headline
+returns-in-Ok-clause-headline g c = λ zero. headline _ c.in-Ok.ensures.does.did
+
 pub returns-in-Ok-clause-exact : goal.returns-in-Ok-clause-exact
-returns-in-Ok-clause-exact g c = λ held status told due low same out_low out_same.
-    let words = map (string_bytes {Z = Global}) c.args.words.now in
-    let old = g.O.Sink.taken c.args.out.now in
-    let new = g.O.Sink.taken c.answer.new.out in
-    let P : Option Holding → Type 0 = λ t. IsDone words t old new in
-    inl (done_due words held old new status (subst P told c.in-Ok.ensures.done) due)
+returns-in-Ok-clause-exact g c = λ held due tells is.
+    done_exact (call_of g.F.Shelf.told g.F.Shelf.faults c.args.words.now c.args.shelf.now c.answer.new.shelf (output g.O.Sink.taken g.O.Sink.faults c.args.out.now c.answer.new.out))
+    held due tells c.in-Ok.ensures.does.did is
 
 pub returns-in-Err-clause-exact : goal.returns-in-Err-clause-exact
-returns-in-Err-clause-exact g c = λ held status told due low same out_low out_same.
-    let words = map (string_bytes {Z = Global}) c.args.words.now in
-    let old = g.O.Sink.taken c.args.out.now in
-    let new = g.O.Sink.taken c.answer.new.out in
-    let ShelfRises = Rose (g.F.Shelf.faults c.args.shelf.now) (g.F.Shelf.faults c.answer.new.shelf) in
-    let OutRises = Rose (g.O.Sink.faults c.args.out.now) (g.O.Sink.faults c.answer.new.out) in
-    let P : Option Holding → Type 0 = λ t. IsCause words t ShelfRises OutRises old new c.in-Err.refusal in
+returns-in-Err-clause-exact g c = λ held due tells is.
     rw c.status-status.ensures
-    (cause_due words held ShelfRises OutRises old new c.in-Err.refusal status (subst P told c.in-Err.ensures.refused)
-    (stayed _ _ low same) (stayed _ _ out_low out_same) due)
+    (refused_exact (call_of g.F.Shelf.told g.F.Shelf.faults c.args.words.now c.args.shelf.now c.answer.new.shelf (output g.O.Sink.taken g.O.Sink.faults c.args.out.now c.answer.new.out))
+    held _ due tells c.in-Err.ensures.does.did is)
+
+pub returns-in-Err-clause-cut : goal.returns-in-Err-clause-cut
+returns-in-Err-clause-cut g c = λ four. cut _ _ c.in-Err.ensures.does.did (sym c.status-status.ensures ∙ four)

@@ -5,15 +5,15 @@ use Rattle.std.proofs.lemmas.Slice.Eq.{strip_prefix_is}
 use Rattle.qccd_words.proofs.Capacities.{some_bytes, capacity-other_name, capacity-no_colon, capacity-given}
 use Rattle.qccd_words.proofs.words.capacity_word.Goals as goal
 
-pub returns-in_err-rest : goal.returns-in_err-rest
-returns-in_err-rest c =
+pub returns-in_err-rest-clause-capacity : goal.returns-in_err-rest-clause-capacity
+returns-in_err-rest-clause-capacity c =
     let name = c.args.name.now in
     let word = c.args.word.now in
     rw c.from_residual.ensures
     (capacity-other_name name word (strip_prefix_is Decides-eqb word name None c.in_err-rest.ensures.cases))
 
-pub returns-in_err-strip_prefix : goal.returns-in_err-strip_prefix
-returns-in_err-strip_prefix c =
+pub returns-in_err-strip_prefix-clause-capacity : goal.returns-in_err-strip_prefix-clause-capacity
+returns-in_err-strip_prefix-clause-capacity c =
     let name = c.args.name.now in
     let word = c.args.word.now in
     let rest = c.in_ok-rest.rest in
@@ -22,8 +22,8 @@ returns-in_err-strip_prefix c =
     (some_bytes rest.now c.if-is_empty.ensures)
     (strip_prefix_is Decides-eqb rest.now (codes ":") None c.in_err-strip_prefix.ensures.cases))
 
-pub returns : goal.returns
-returns c =
+pub returns-clause-capacity : goal.returns-clause-capacity
+returns-clause-capacity c =
     let name = c.args.name.now in
     let word = c.args.word.now in
     let rest = c.in_ok-rest.rest in

@@ -1,0 +1,47 @@
+-- In each arm the pieces are those of the message.
+use Rattle.std.proofs.Common.{◌∙◌, ap, decimal}
+use Rattle.qccd_refusals.proofs.refusal.tell.Goals as goal
+
+pub returns-in-Words : goal.returns-in-Words
+returns-in-Words g c =
+    rw c.in-Words.is c.send_all.ensures
+
+pub returns-in-Read : goal.returns-in-Read
+returns-in-Read g c =
+    let first = c.as_bytes.ensures.value in
+    rw (c.in-Read.is, ← first) c.send_all-in-Read.ensures
+
+pub returns-in-Write : goal.returns-in-Write
+returns-in-Write g c =
+    rw c.in-Write.is c.send_all-in-Write.ensures
+
+pub returns-in-TooLarge : goal.returns-in-TooLarge
+returns-in-TooLarge g c =
+    let first = c.as_bytes-in-TooLarge.ensures.value in
+    let second = c.as_bytes-in-TooLarge-2.ensures.value ∙ c.deref.ensures.0 ∙ c.number_text.ensures ∙ ap decimal c.into.ensures in
+    rw (c.in-TooLarge.is, ← first, ← second) c.send_all-in-TooLarge.ensures
+
+pub returns-in-Machine : goal.returns-in-Machine
+returns-in-Machine g c =
+    let first = c.as_bytes-in-Machine.ensures.value ∙ c.deref-in-Machine.ensures.0 ∙ c.text.ensures in
+    rw (c.in-Machine.is, ← first) c.send_all-in-Machine.ensures
+
+pub returns-in-NotBuilt : goal.returns-in-NotBuilt
+returns-in-NotBuilt g c =
+    rw c.in-NotBuilt.is c.send_all-in-NotBuilt.ensures
+
+pub returns-in-Circuit : goal.returns-in-Circuit
+returns-in-Circuit g c =
+    let first = c.as_bytes-in-Circuit.ensures.value ∙ c.deref-in-Circuit.ensures.0 ∙ c.number_text-in-Circuit.ensures ∙ ap decimal c.into-in-Circuit.ensures in
+    let second = c.as_bytes-in-Circuit-2.ensures.value ∙ c.text-in-Circuit.ensures in
+    rw (c.in-Circuit.is, ← first, ← second) c.send_all-in-Circuit.ensures
+
+pub returns-in-Shortage : goal.returns-in-Shortage
+returns-in-Shortage g c =
+    let first = c.as_bytes-in-Shortage.ensures.value ∙ c.deref-in-Shortage.ensures.0 ∙ c.number_text-in-Shortage.ensures ∙ ap decimal c.into-in-Shortage.ensures in
+    let second = c.as_bytes-in-Shortage-2.ensures.value ∙ c.deref-in-Shortage-2.ensures.0 ∙ c.number_text-in-Shortage-2.ensures ∙ ap decimal c.into-in-Shortage-2.ensures in
+    rw (c.in-Shortage.is, ← first, ← second) c.send_all-in-Shortage.ensures
+
+pub returns-in-NoMemory : goal.returns-in-NoMemory
+returns-in-NoMemory g c =
+    rw c.in-NoMemory.is c.send_all-in-NoMemory.ensures

@@ -1,0 +1,30 @@
+-- What is told where a command is refused.
+use Rattle.std.specs.Prelude.{ℕ, List, [], ◌∷◌, codes, decimal}
+use Rattle.std.specs.List.{concat}
+use Rattle.machine_text.specs.FaultText.{text_fault_text}
+use Rattle.qasm_reader.specs.Kind.{kind_text}
+use Rattle.qccd_refusals.specs.Cause.{Cause, Words, Read, Write, TooLarge, Machine, NotBuilt, Circuit, Shortage, NoMemory}
+
+-- the forms that the words may have
+abbrev pub usage : List ℕ
+usage = concat (
+    codes "usage: qccd run MACHINE CIRCUIT [--workers N] [--swap ion|gate]\n"
+    ∷ codes "       qccd compile MACHINE CIRCUIT [--swap ion|gate]\n"
+    ∷ codes "       qccd exec MACHINE PROGRAM [--workers N]\n"
+    ∷ codes "       qccd check MACHINE CIRCUIT PROGRAM\n"
+    ∷ codes "       qccd rehearse NUMBER QUBITS ITEMS MACHINE [--workers N]\n"
+    ∷ [])
+
+abbrev pub message_of : Cause → List ℕ
+message_of Words = usage
+message_of (Read name) = concat (codes "qccd: cannot read " ∷ name ∷ codes "\n" ∷ [])
+message_of Write = codes "qccd: cannot write\n"
+message_of (TooLarge name limit) =
+    concat (codes "qccd: " ∷ name ∷ codes " has more than " ∷ decimal limit ∷ codes " bytes\n" ∷ [])
+message_of (Machine fault) = concat (codes "qccd: machine: " ∷ text_fault_text fault ∷ codes "\n" ∷ [])
+message_of NotBuilt = codes "qccd: machine: not built\n"
+message_of (Circuit at kind) =
+    concat (codes "qccd: circuit: byte " ∷ decimal at ∷ codes ": " ∷ kind_text kind ∷ codes "\n" ∷ [])
+message_of (Shortage qubits slots) =
+    concat (codes "qccd: " ∷ decimal qubits ∷ codes " qubits, " ∷ decimal slots ∷ codes " slots\n" ∷ [])
+message_of NoMemory = codes "qccd: no memory\n"

@@ -1,0 +1,56 @@
+-- Words are judged before all else.
+use Rattle.std.proofs.Common.{◌≡◌, ◌↔◌, ℕ, List, ◌⊎◌, inl, inr, Option, None, Result, Err, sym, ◌∙◌, ap, arith}
+use Rattle.qccd_io.specs.Shelf.{Holding}
+use Rattle.qccd_circuit.specs.Circuit.{CircuitData}
+use Rattle.qccd_machine.specs.Machine.{MachineData}
+use Rattle.qccd_words.specs.Words.{AskedMachine, OfPreset, OfFile, Asked, AskedRun, request_of}
+use Rattle.qccd_refusals.specs.Cause.{Cause, Words, status_of}
+use Rattle.qccd_top.specs.declared.limits.TheConstants.{CIRCUIT_LIMIT, MACHINE_LIMIT}
+use Rattle.qccd_top.specs.Stage.{Stage, Refuses, ◌>>=◌, Just, Test}
+use Rattle.qccd_top.specs.Stages.{FileIn, MachineOf, MachineIn, Built, CircuitOf, CircuitIn, Fits}
+use Rattle.qccd_top.specs.Means.{CompiledIn, TextOf, Written}
+use Rattle.qccd_top.specs.Call.{Call}
+use Rattle.qccd_top.specs.Done.{IsCauseOf}
+
+-- a stage that does not refuse words
+abbrev Takes : {A : Type 0} → Stage A → Type 0
+Takes stage = stage (Refuses Words) → ⊥
+
+takes-then : {A B : Type 0} (first : Stage A) (next : A → Stage B) → Takes first → ((a : A) → Takes (next a)) → Takes (first >>= next)
+unfolding ◌>>=◌
+takes-then first next one ones (inl why) = one why
+takes-then first next one ones (inr (a, given, why)) = ones a why
+
+takes-machine : (told : Option Holding) (word : AskedMachine) → Takes (MachineIn told word)
+takes-machine told (OfPreset which capacity) = λ why. why
+takes-machine told (OfFile name) = takes-then (FileIn told name MACHINE_LIMIT) MachineOf (λ why. why) (λ text why. why)
+
+takes-circuit : (told : Option Holding) (name : List ℕ) → Takes (CircuitIn told name)
+takes-circuit told name = takes-then (FileIn told name CIRCUIT_LIMIT) CircuitOf (λ why. why) (λ text why. why)
+
+takes-built : (m : MachineData) → Takes (Built m)
+takes-built m = λ why. let other = why.1 in cc
+
+takes-fits : (c : CircuitData) (m : MachineData) → Takes (Fits c m)
+takes-fits c m = λ why. let other = why.1 in cc
+
+takes-compiled : (told : Option Holding) (machine : AskedMachine) (circuit : List ℕ) → Takes (CompiledIn told machine circuit)
+takes-compiled told machine circuit =
+    takes-then _ _ (takes-machine told machine) (λ m.
+    takes-then _ _ (takes-built m) (λ u.
+    takes-then _ _ (takes-circuit told circuit) (λ c.
+    takes-then _ _ (takes-fits c m) (λ v why. why))))
+
+-- what words ask for is not refused for the words
+takes-text : (told : Option Holding) (asked : Asked) → Takes (TextOf told asked)
+takes-text told (AskedRun machine circuit workers mode) = takes-then _ _ (takes-compiled told machine circuit) (λ p why. why)
+
+no_reading : (told : Option Holding) (words : List (List ℕ)) → Written told words (Refuses Words) → request_of words ≡ None
+unfolding ◌>>=◌
+no_reading told words (inl none) = none
+no_reading told words (inr (asked, reading, why)) = absurd (takes-text told asked why)
+
+-- status 2 comes for the words alone
+pub words_cause : (call : Call) (cause : Cause) → IsCauseOf call cause → status_of cause ≡ 2 → request_of call.words ≡ None
+words_cause call Words rests two = no_reading call.told call.words rests.0
+words_cause call cause rests two = absurd (omega (arith, two))

@@ -1,0 +1,149 @@
+-- A stage has one answer, where the shelf tells what it holds.
+use Rattle.std.proofs.Common.{◌≡◌, ◌≢◌, ℕ, ◌<◌, ◌≤◌, ◌⊎◌, inl, inr, List, length, Option, Some, None, refl, sym, ◌∙◌, ap, subst, arith}
+use Rattle.qccd_io.specs.Shelf.{Holding}
+use Rattle.qccd_circuit.specs.Circuit.{CircuitData}
+use Rattle.qccd_machine.specs.Machine.{MachineData, slots_of}
+use Rattle.qccd_machine.specs.Preset.{preset_of}
+use Rattle.machine_text.proofs.Answered.{one_parts, one_refusal, not_both}
+use Rattle.qasm_reader.proofs.FormLemmas.{one_form}
+use Rattle.qccd_words.specs.Words.{AskedMachine, OfPreset, OfFile, Asked, AskedRun}
+use Rattle.qccd_refusals.specs.Cause.{Cause, Words, Read, TooLarge, Machine, Circuit}
+use Rattle.qccd_top.specs.declared.limits.TheConstants.{CIRCUIT_LIMIT, MACHINE_LIMIT}
+use Rattle.qccd_top.specs.Stages.{WordsOf, FileIn, MachineOf, MachineIn, one_trap_of, Built, CircuitOf, CircuitIn, Fits}
+use Rattle.qccd_top.specs.Means.{CompiledIn, TextOf, Written}
+use Rattle.qccd_top.specs.Stage.{Answer, Gives, Refuses, Reads, Stage, ◌>>=◌, ◌>>◌, Just, Test}
+
+pub record IsSingle {A : Type 0} (stage : Stage A) : Type 0 where
+  pub given : (a b : A) → stage (Gives a) → stage (Gives b) → a ≡ b
+  pub refused : (c d : Cause) → stage (Refuses c) → stage (Refuses d) → c ≡ d
+  pub not_both : (a : A) (c : Cause) → stage (Gives a) → stage (Refuses c) → ⊥
+
+-- so has one stage after another
+pub single-then : {A B : Type 0} (first : Stage A) (next : A → Stage B) → IsSingle first → ((a : A) → IsSingle (next a)) → IsSingle (first >>= next)
+unfolding ◌>>=◌
+single-then {A} {B} first next one ones = record {
+  given = λ x y (a, held, more) (b, also, other).
+      (ones b).given x y (subst (λ (v : A). next v (Gives x)) (one.given a b held also) more) other;
+  refused = refused;
+  not_both = not_both;
+}
+  where
+    refused : (c d : Cause) → (first >>= next) (Refuses c) → (first >>= next) (Refuses d) → c ≡ d
+    refused c d (inl why) (inl other) = one.refused c d why other
+    refused c d (inl why) (inr (b, also, other)) = absurd (one.not_both b c also why)
+    refused c d (inr (a, held, why)) (inl other) = absurd (one.not_both a d held other)
+    refused c d (inr (a, held, why)) (inr (b, also, other)) =
+        (ones b).refused c d (subst (λ (v : A). next v (Refuses c)) (one.given a b held also) why) other
+
+    not_both : (x : B) (c : Cause) → (first >>= next) (Gives x) → (first >>= next) (Refuses c) → ⊥
+    not_both x c (a, held, more) (inl why) = one.not_both a c held why
+    not_both x c (a, held, more) (inr (b, also, why)) =
+        (ones b).not_both x c (subst (λ (v : A). next v (Gives x)) (one.given a b held also) more) why
+
+single-just : {A : Type 0} (a : A) → IsSingle (Just a)
+single-just a = record {
+  given = λ x y held also. held ∙ sym also;
+  refused = λ c d why other. absurd why;
+  not_both = λ x c held why. why;
+}
+
+single-test : (P Q : Type 0) (why : Cause) → (P → Q → ⊥) → IsSingle (Test P why Q)
+single-test P Q why apart = record {
+  given = λ x y held also. refl;
+  refused = λ c d first second. first.1 ∙ sym second.1;
+  not_both = λ x c held refused. apart refused.0 held;
+}
+
+single-file : (held : Holding) (name : List ℕ) (limit : ℕ) → IsSingle (FileIn (Some held) name limit)
+single-file held name limit = record { given = given; refused = refused; not_both = not_both }
+  where
+    given : (a b : List ℕ) → FileIn (Some held) name limit (Gives a) → FileIn (Some held) name limit (Gives b) → a ≡ b
+    given a b first second = let one = first.0 in let two = second.0 in cc
+
+    refused : (c d : Cause) → FileIn (Some held) name limit (Refuses c) → FileIn (Some held) name limit (Refuses d) → c ≡ d
+    refused (Read n) (Read m) (same, lacks) (also, too) = ap Read (same ∙ sym also)
+    refused (Read n) (TooLarge m l) (same, lacks) (also, most, large) = let there = large.1 in absurd (cc)
+    refused (TooLarge n l) (Read m) (same, most, large) (also, lacks) = let there = large.1 in absurd (cc)
+    refused (TooLarge n l) (TooLarge m k) (same, most, large) (also, too, larger) = cc
+    refused (Read n) d first second = absurd second
+    refused (TooLarge n l) d first second = absurd second
+    refused c d first second = absurd first
+
+    not_both : (a : List ℕ) (c : Cause) → FileIn (Some held) name limit (Gives a) → FileIn (Some held) name limit (Refuses c) → ⊥
+    not_both a (Read n) first (same, lacks) = let there = first.0 in absurd (cc)
+    not_both a (TooLarge n l) first (same, most, large) =
+        let there = first.0 in
+        let text = large.1 in
+        let is : large.0 ≡ a = cc in
+        omega (arith, first.1, large.2, ap length is)
+    not_both a c first second = second
+
+-- ---- the stages
+
+single-words : (words : List (List ℕ)) → IsSingle (WordsOf words)
+single-words words = record { given = λ a b is also. let same = sym is ∙ also in cc; refused = refused; not_both = apart }
+  where
+    refused : (c d : Cause) → WordsOf words (Refuses c) → WordsOf words (Refuses d) → c ≡ d
+    refused Words Words first second = refl
+    refused Words d first second = absurd second
+    refused c d first second = absurd first
+
+    apart : (a : Asked) (c : Cause) → WordsOf words (Gives a) → WordsOf words (Refuses c) → ⊥
+    apart a Words first second = let same = sym first ∙ second in cc
+    apart a c first second = second
+
+single-machine_of : (text : List ℕ) → IsSingle (MachineOf text)
+single-machine_of text = record {
+  given = λ m n is also. one_parts text m n is.description also.description;
+  refused = refused;
+  not_both = apart;
+}
+  where
+    refused : (c d : Cause) → MachineOf text (Refuses c) → MachineOf text (Refuses d) → c ≡ d
+    refused (Machine f) (Machine g) first second = ap Machine (one_refusal text f g first second)
+    refused (Machine f) d first second = absurd second
+    refused c d first second = absurd first
+
+    apart : (m : MachineData) (c : Cause) → MachineOf text (Gives m) → MachineOf text (Refuses c) → ⊥
+    apart m (Machine f) first second = not_both text m f first second
+    apart m c first second = second
+
+single-machine : (held : Holding) (word : AskedMachine) → IsSingle (MachineIn (Some held) word)
+single-machine held (OfPreset which capacity) = single-just (preset_of which capacity)
+single-machine held (OfFile name) = single-then (FileIn (Some held) name MACHINE_LIMIT) MachineOf (single-file held name MACHINE_LIMIT) single-machine_of
+
+single-built : (m : MachineData) → IsSingle (Built m)
+single-built m = single-test (m ≢ one_trap_of m) (m ≡ one_trap_of m) _ (λ other is. other is)
+
+single-circuit_of : (text : List ℕ) → IsSingle (CircuitOf text)
+single-circuit_of text = record { given = one_form text; refused = refused; not_both = apart }
+  where
+    refused : (c d : Cause) → CircuitOf text (Refuses c) → CircuitOf text (Refuses d) → c ≡ d
+    refused (Circuit a k) (Circuit b l) first second = let x = first.first in let y = second.first in let z = first.not_built in let w = second.not_built in cc
+    refused (Circuit a k) d first second = absurd second
+    refused c d first second = absurd first
+
+    apart : (m : CircuitData) (c : Cause) → CircuitOf text (Gives m) → CircuitOf text (Refuses c) → ⊥
+    apart m (Circuit a k) first second = second.no_circuit m first
+    apart m c first second = second
+
+single-circuit : (held : Holding) (name : List ℕ) → IsSingle (CircuitIn (Some held) name)
+single-circuit held name = single-then (FileIn (Some held) name CIRCUIT_LIMIT) CircuitOf (single-file held name CIRCUIT_LIMIT) single-circuit_of
+
+single-fits : (c : CircuitData) (m : MachineData) → IsSingle (Fits c m)
+single-fits c m = single-test (slots_of m < c.qubits) (c.qubits ≤ slots_of m) _ (λ more few. omega arith)
+
+single-compiled : (held : Holding) (machine : AskedMachine) (circuit : List ℕ) → IsSingle (CompiledIn (Some held) machine circuit)
+single-compiled held machine circuit =
+    single-then _ _ (single-machine held machine) (λ m.
+    single-then _ _ (single-built m) (λ u.
+    single-then _ _ (single-circuit held circuit) (λ c.
+    single-then _ _ (single-fits c m) (λ v. single-just _))))
+
+-- a command has one answer
+single-text : (held : Holding) (asked : Asked) → IsSingle (TextOf (Some held) asked)
+single-text held (AskedRun machine circuit workers mode) = single-then _ _ (single-compiled held machine circuit) (λ p. single-just _)
+
+-- so have words
+pub single-written : (held : Holding) (words : List (List ℕ)) → IsSingle (Written (Some held) words)
+single-written held words = single-then (WordsOf words) (TextOf (Some held)) (single-words words) (single-text held)

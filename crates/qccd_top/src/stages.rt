@@ -1,0 +1,154 @@
+//! The stages of which commands are made.
+
+ghost use Rattle.std.specs.Prelude.{◌≡◌, ◌≤◌, length, IfOk};
+ghost use Rattle.qccd_io.specs.Shelf.{NoneIsOut};
+ghost use Rattle.qccd_machine.specs.Preset.{preset_of};
+ghost use Rattle.qasm_reader.specs.Reading.{IsPlain};
+ghost use Rattle.qccd_words.specs.Words.{machine_asked, HasCapacity};
+ghost use Rattle.qccd_top.specs.Stage.{IsAnswer, Visits, Just, bytes_of};
+ghost use Rattle.qccd_top.specs.Stages.{FileIn, MachineOf, MachineIn, Built, CircuitOf, CircuitIn, Fits};
+ghost use Rattle.qccd_top.specs.Means.{CompiledIn};
+
+use crate::limits::{CIRCUIT_LIMIT, MACHINE_LIMIT};
+use crate::program::Program;
+use machine_text::{TextFault, read_machine};
+use qasm_reader::{QasmFault, read};
+use qccd_base::Times;
+use qccd_circuit::Circuit;
+use qccd_io::{FetchFault, Shelf, fetch_all};
+use qccd_machine::{Machine, MachineFault, Preset, preset_machine};
+use qccd_refusals::Refusal;
+use qccd_words::MachineWord;
+use std::alloc::Global;
+
+/// The bytes of the file of this name, of which there are at most `limit`.
+fn file_in<'a, F: Shelf>(
+    alloc: Global,
+    shelf: &mut F,
+    name: &'a str,
+    limit: u32,
+) -> Result<Vec<u8>, Refusal<'a>>
+    requires { NoneIsOut (F.told shelf.old) }
+    ensures { Visits F.told F.faults shelf.old shelf.new (λ told. FileIn told name.now limit) (bytes_of result) }
+{
+    match fetch_all(alloc, shelf, name, limit) {
+        Ok(text) => Ok(text),
+        Err(FetchFault::ReadFault) => Err(Refusal::Read { name }),
+        Err(FetchFault::TooLarge { limit }) => Err(Refusal::TooLarge { name, limit }),
+        Err(FetchFault::NoMemory) => Err(Refusal::NoMemory),
+    }
+}
+
+/// The machine that is known by this name.
+fn preset<'a>(alloc: Global, which: Preset, capacity: u8) -> Result<Machine, Refusal<'a>>
+    requires least { 2 ≤ capacity }
+    requires most { capacity ≤ 32 }
+    ensures { IsAnswer (Just (preset_of which capacity)) result }
+{
+    match preset_machine(alloc, which, capacity) {
+        Ok(machine) => Ok(machine),
+        Err(_) => Err(Refusal::NoMemory),
+    }
+}
+
+/// The machine of the text.
+fn machine_of<'a>(alloc: Global, text: &[u8]) -> Result<Machine, Refusal<'a>>
+    ensures { IsAnswer (MachineOf text.now) result }
+{
+    match read_machine(alloc, text) {
+        Ok(machine) => Ok(machine),
+        Err(TextFault::NoMemory) => Err(Refusal::NoMemory),
+        Err(fault) => Err(Refusal::Machine { fault }),
+    }
+}
+
+/// The machine that the word names.
+pub fn machine_in<'a, F: Shelf>(
+    alloc: Global,
+    shelf: &mut F,
+    word: MachineWord<'a>,
+) -> Result<Machine, Refusal<'a>>
+    requires inside { NoneIsOut (F.told shelf.old) }
+    requires capacity { HasCapacity (machine_asked word) }
+    ensures { Visits F.told F.faults shelf.old shelf.new (λ told. MachineIn told (machine_asked word.entry)) result }
+{
+    match word {
+        MachineWord::Preset(which, capacity) => preset(alloc, which, capacity),
+        MachineWord::File(name) => {
+            let text = file_in(alloc, shelf, name, MACHINE_LIMIT)?;
+            machine_of(alloc, text.as_slice())
+        }
+    }
+}
+
+/// Whether programs are built for the machine.
+fn built<'a>(machine: &Machine) -> Result<(), Refusal<'a>>
+    ensures { IsAnswer (Built machine.now) result }
+{
+    if machine.traps() == 1
+        && machine.segments() == 0
+        && machine.junctions() == 0
+        && *machine.times() == Times::usual()
+    {
+        Ok(())
+    } else {
+        Err(Refusal::NotBuilt)
+    }
+}
+
+/// The circuit of the text.
+fn circuit_of<'a>(alloc: Global, text: &[u8]) -> Result<Circuit, Refusal<'a>>
+    requires { length text.now ≤ 16777216 }
+    ensures answer { IsAnswer (CircuitOf text.now) result }
+    ensures plain { IfOk result IsPlain }
+{
+    match read(alloc, text) {
+        Ok(circuit) => Ok(circuit),
+        Err(QasmFault::Refused { at, kind }) => Err(Refusal::Circuit { at, kind }),
+        Err(QasmFault::NoMemory) => Err(Refusal::NoMemory),
+    }
+}
+
+/// The circuit in the file of this name.
+pub fn circuit_in<'a, F: Shelf>(
+    alloc: Global,
+    shelf: &mut F,
+    name: &'a str,
+) -> Result<Circuit, Refusal<'a>>
+    requires { NoneIsOut (F.told shelf.old) }
+    ensures visits { Visits F.told F.faults shelf.old shelf.new (λ told. CircuitIn told name.now) result }
+    ensures plain { IfOk result IsPlain }
+{
+    let text = file_in(alloc, shelf, name, CIRCUIT_LIMIT)?;
+    circuit_of(alloc, text.as_slice())
+}
+
+/// Whether the machine has places for the circuit's qubits.
+fn fits<'a>(circuit: &Circuit, machine: &Machine) -> Result<(), Refusal<'a>>
+    ensures { IsAnswer (Fits circuit.now machine.now) result }
+{
+    let qubits = u32::from(circuit.qubits());
+    let slots = machine.slots();
+    if qubits > slots {
+        return Err(Refusal::Shortage { qubits, slots });
+    }
+    Ok(())
+}
+
+/// The program of the circuit in the file of this name, for the machine that the word names.
+pub fn compiled_in<'a, F: Shelf>(
+    alloc: Global,
+    shelf: &mut F,
+    word: MachineWord<'a>,
+    name: &'a str,
+) -> Result<Program, Refusal<'a>>
+    requires inside { NoneIsOut (F.told shelf.old) }
+    requires capacity { HasCapacity (machine_asked word) }
+    ensures { Visits F.told F.faults shelf.old shelf.new (λ told. CompiledIn told (machine_asked word.entry) name.now) result }
+{
+    let machine = machine_in(alloc, shelf, word)?;
+    built(&machine)?;
+    let circuit = circuit_in(alloc, shelf, name)?;
+    fits(&circuit, &machine)?;
+    Ok(Program::of(circuit, machine))
+}
