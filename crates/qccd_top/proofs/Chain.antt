@@ -7,10 +7,10 @@ use Rattle.qccd_io.specs.Shelf.{Holding}
 use Rattle.qccd_io.proofs.Faulting.{Rose-from_later}
 use Rattle.qccd_words.specs.Words.{Asked, request_of}
 use Rattle.qccd_top.specs.Stages.{WordsOf}
-use Rattle.qccd_top.specs.Means.{TextOf, Written}
+use Rattle.qccd_top.specs.Means.{TextOf, TextFor}
 use Rattle.qccd_top.specs.Call.{Output, output}
 use Rattle.qccd_top.specs.Done.{IsCause, Did, Does, Writes}
-use Rattle.qccd_top.specs.Stage.{Answer, Gives, Refuses, Reads, Stage, ◌>>=◌, Just, IsRefusal, Answered, IsAnswer, Visits}
+use Rattle.qccd_top.specs.Stage.{Answer, Gives, Refuses, Fetches, Stage, ◌>>=◌, Just, IsRefusal, Answered, IsAnswer, Visits}
 
 -- both stages pass
 pub both : {A B : Type 0} (first : Stage A) (next : A → Stage B) (a : A) (b : B) → first (Gives a) → next a (Gives b) → (first >>= next) (Gives b)
@@ -201,12 +201,12 @@ does_write told faults taken out_faults old out_old out_new text (Err e) writes 
 
 pub does_asked : {X Y : Type 0} (told : X → Option Holding) (faults : X → ℕ) (taken : Y → Option (List ℕ)) (out_faults : Y → ℕ) (old new : X) (out_old out_new : Y)
     (words : List (List ℕ)) (asked : Asked) (r : Result (Unit {0}) Refusal) → request_of words ≡ Some asked
-    → Does told faults taken out_faults old new out_old out_new (λ t. TextOf t asked) r → Does told faults taken out_faults old new out_old out_new (λ t. Written t words) r
+    → Does told faults taken out_faults old new out_old out_new (λ t. TextOf t asked) r → Does told faults taken out_faults old new out_old out_new (λ t. TextFor t words) r
 does_asked told faults taken out_faults old new out_old out_new words asked r reading did =
     does_pure_on told faults taken out_faults old new out_old out_new (WordsOf words) TextOf asked r (record { answer = reading }) did
 
 pub does_no_words : {X Y : Type 0} (told : X → Option Holding) (faults : X → ℕ) (taken : Y → Option (List ℕ)) (out_faults : Y → ℕ) (old : X) (out : Y)
     (words : List (List ℕ)) (e : Refusal) → request_of words ≡ None → cause_of e ≡ Words
-    → Does told faults taken out_faults old old out out (λ t. Written t words) (Err e)
+    → Does told faults taken out_faults old old out out (λ t. TextFor t words) (Err e)
 does_no_words told faults taken out_faults old out words e none is =
     does_pure_stop told faults taken out_faults old out (WordsOf words) TextOf (Err e) e (record { answer = subst (IsRefusal (WordsOf words) ⊥) (sym is) none }) refl

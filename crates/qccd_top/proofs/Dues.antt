@@ -2,9 +2,9 @@
 use Rattle.std.proofs.Common.{◌≡◌, ℕ, ◌≤◌, ◌⊎◌, inl, inr, List, Option, Some, None, refl, sym, ◌∙◌, ap, subst}
 use Rattle.qccd_io.specs.Shelf.{Holding}
 use Rattle.qccd_refusals.specs.Cause.{Cause, Read, Write, NoMemory, status_of}
-use Rattle.qccd_top.specs.Stage.{Gives, Refuses, Reads, Stage, ◌>>=◌, IsRefusal}
-use Rattle.qccd_top.specs.Means.{Written}
-use Rattle.qccd_top.specs.Call.{Output, Failed, Call, ReadFailed}
+use Rattle.qccd_top.specs.Stage.{Gives, Refuses, Fetches, Stage, ◌>>=◌, IsRefusal}
+use Rattle.qccd_top.specs.Means.{TextFor}
+use Rattle.qccd_top.specs.Call.{Output, WriteFailed, Call, ReadFailed}
 use Rattle.qccd_top.specs.Done.{Wrote, IsCause, IsDone, IsCauseOf, IsDueFor, IsDue, IsDueOrFault}
 use Rattle.qccd_top.proofs.Single.{IsSingle, single-written}
 
@@ -27,11 +27,21 @@ cause_due call text_of cause due one (why, still) is = inl (held_due text_of cau
 
 pub done_exact : (call : Call) (held : Holding) (due : ℕ) → call.told ≡ Some held → IsDone call → IsDue call.words held due → IsDueOrFault call due 0
 done_exact call held due tells done is =
-    let wrote : Wrote (Written (Some held) call.words) call.out = subst (λ (t : Option Holding). Wrote (Written t call.words) call.out) tells done in
-    inl (wrote_due (Written (Some held) call.words) call.out due (single-written held call.words) wrote is)
+    let wrote : Wrote (TextFor (Some held) call.words) call.out = subst (λ (t : Option Holding). Wrote (TextFor t call.words) call.out) tells done in
+    inl (wrote_due (TextFor (Some held) call.words) call.out due (single-written held call.words) wrote is)
 
 pub refused_exact : (call : Call) (held : Holding) (cause : Cause) (due : ℕ)
     → call.told ≡ Some held → IsCauseOf call cause → IsDue call.words held due → IsDueOrFault call due (status_of cause)
 refused_exact call held cause due tells why is =
-    let Rests : Option Holding → Type 0 = λ t. IsCause (Written t call.words) (ReadFailed call) call.out cause in
-    cause_due call (Written (Some held) call.words) cause due (single-written held call.words) (subst Rests tells why) is
+    let Rests : Option Holding → Type 0 = λ t. IsCause (TextFor t call.words) (ReadFailed call) call.out cause in
+    cause_due call (TextFor (Some held) call.words) cause due (single-written held call.words) (subst Rests tells why) is
+
+-- one status at most is due
+pub one_due : (words : List (List ℕ)) (held : Holding) (first second : ℕ) → IsDue words held first → IsDue words held second → first ≡ second
+one_due words held first second is also = due_for (TextFor (Some held) words) (single-written held words) is also
+  where
+    due_for : (text_of : Stage (List ℕ)) → IsSingle text_of → IsDueFor text_of first → IsDueFor text_of second → first ≡ second
+    due_for text_of one (inl (text, means, zero)) (inl (other, too, nought)) = zero ∙ sym nought
+    due_for text_of one (inl (text, means, zero)) (inr (cause, why, status)) = absurd (one.not_both text cause means why)
+    due_for text_of one (inr (cause, why, status)) (inl (text, means, zero)) = absurd (one.not_both text cause means why)
+    due_for text_of one (inr (cause, why, status)) (inr (other, too, stands)) = status ∙ ap status_of (one.refused cause other why too) ∙ sym stands

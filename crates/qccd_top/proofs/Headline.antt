@@ -24,7 +24,7 @@ use Rattle.qccd_words.proofs.Capacities.{asked_capacity}
 use Rattle.qccd_refusals.specs.Cause.{Cause, Write, status_of}
 use Rattle.qccd_top.specs.Stage.{Gives, ◌>>=◌}
 use Rattle.qccd_top.specs.Stages.{MachineIn, CircuitIn, one_trap_of}
-use Rattle.qccd_top.specs.Means.{CompiledIn, TextOf, Written}
+use Rattle.qccd_top.specs.Means.{CompiledIn, TextOf, TextFor}
 use Rattle.qccd_top.specs.Call.{Call}
 use Rattle.qccd_top.specs.Done.{IsDone, IsCauseOf}
 use Rattle.qccd_top.specs.Headline.{IsMeant, IsFaithful, IsRunOf, IsReported, IsCutReport}
@@ -101,7 +101,7 @@ report_of call (AskedRun word name workers mode) text reading (p, means, report)
     } in
     (p, record { machine = m; circuit = c; meant = meant; faithful = subst (IsFaithful m c) (sym is) done }, report)
 
-written_report : (call : Call) (text : List ℕ) → Written call.told call.words (Gives text) → (program : ProgramData) × IsRunOf call program × (text ≡ report_text program)
+written_report : (call : Call) (text : List ℕ) → TextFor call.told call.words (Gives text) → (program : ProgramData) × IsRunOf call program × (text ≡ report_text program)
 unfolding ◌>>=◌
 written_report call text (asked, reading, means) = report_of call asked text reading means
 

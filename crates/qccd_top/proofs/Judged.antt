@@ -8,7 +8,7 @@ use Rattle.qccd_refusals.specs.Cause.{Cause, Words, status_of}
 use Rattle.qccd_top.specs.declared.limits.TheConstants.{CIRCUIT_LIMIT, MACHINE_LIMIT}
 use Rattle.qccd_top.specs.Stage.{Stage, Refuses, ◌>>=◌, Just, Test}
 use Rattle.qccd_top.specs.Stages.{FileIn, MachineOf, MachineIn, Built, CircuitOf, CircuitIn, Fits}
-use Rattle.qccd_top.specs.Means.{CompiledIn, TextOf, Written}
+use Rattle.qccd_top.specs.Means.{CompiledIn, TextOf, TextFor}
 use Rattle.qccd_top.specs.Call.{Call}
 use Rattle.qccd_top.specs.Done.{IsCauseOf}
 
@@ -45,7 +45,7 @@ takes-compiled told machine circuit =
 takes-text : (told : Option Holding) (asked : Asked) → Takes (TextOf told asked)
 takes-text told (AskedRun machine circuit workers mode) = takes-then _ _ (takes-compiled told machine circuit) (λ p why. why)
 
-no_reading : (told : Option Holding) (words : List (List ℕ)) → Written told words (Refuses Words) → request_of words ≡ None
+no_reading : (told : Option Holding) (words : List (List ℕ)) → TextFor told words (Refuses Words) → request_of words ≡ None
 unfolding ◌>>=◌
 no_reading told words (inl none) = none
 no_reading told words (inr (asked, reading, why)) = absurd (takes-text told asked why)

@@ -10,8 +10,8 @@ use Rattle.qccd_words.specs.Words.{AskedMachine, OfPreset, OfFile, Asked, AskedR
 use Rattle.qccd_refusals.specs.Cause.{Cause, Words, Read, TooLarge, Machine, Circuit}
 use Rattle.qccd_top.specs.declared.limits.TheConstants.{CIRCUIT_LIMIT, MACHINE_LIMIT}
 use Rattle.qccd_top.specs.Stages.{WordsOf, FileIn, MachineOf, MachineIn, one_trap_of, Built, CircuitOf, CircuitIn, Fits}
-use Rattle.qccd_top.specs.Means.{CompiledIn, TextOf, Written}
-use Rattle.qccd_top.specs.Stage.{Answer, Gives, Refuses, Reads, Stage, ◌>>=◌, ◌>>◌, Just, Test}
+use Rattle.qccd_top.specs.Means.{CompiledIn, TextOf, TextFor}
+use Rattle.qccd_top.specs.Stage.{Answer, Gives, Refuses, Fetches, Stage, ◌>>=◌, ◌>>◌, Just, Test}
 
 pub record IsSingle {A : Type 0} (stage : Stage A) : Type 0 where
   pub given : (a b : A) → stage (Gives a) → stage (Gives b) → a ≡ b
@@ -145,5 +145,5 @@ single-text : (held : Holding) (asked : Asked) → IsSingle (TextOf (Some held) 
 single-text held (AskedRun machine circuit workers mode) = single-then _ _ (single-compiled held machine circuit) (λ p. single-just _)
 
 -- so have words
-pub single-written : (held : Holding) (words : List (List ℕ)) → IsSingle (Written (Some held) words)
+pub single-written : (held : Holding) (words : List (List ℕ)) → IsSingle (TextFor (Some held) words)
 single-written held words = single-then (WordsOf words) (TextOf (Some held)) (single-words words) (single-text held)

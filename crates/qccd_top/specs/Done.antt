@@ -7,8 +7,8 @@ use Rattle.qccd_refusals.specs.declared.refusal.Refusal.{Refusal}
 use Rattle.qccd_refusals.specs.Cause.{Cause, Write, cause_of, status_of}
 use Rattle.qccd_refusals.specs.Message.{message_of}
 use Rattle.qccd_top.specs.Stage.{Stage, Just, Gives, Refuses, IsRefusal}
-use Rattle.qccd_top.specs.Means.{Written}
-use Rattle.qccd_top.specs.Call.{Output, output, Failed, Call, ReadFailed}
+use Rattle.qccd_top.specs.Means.{TextFor}
+use Rattle.qccd_top.specs.Call.{Output, output, WriteFailed, Call, ReadFailed}
 
 -- the text was taken whole
 pub record Wrote (text_of : Stage (List ℕ)) (out : Output) : Type 0 where
@@ -21,7 +21,7 @@ pub record CutShort (text_of : Stage (List ℕ)) (out : Output) : Type 0 where
   pub text : List ℕ
   pub means : text_of (Gives text)
   pub prefix : TookPrefix out.old out.new text
-  pub rose : Failed out
+  pub rose : WriteFailed out
 
 -- what each cause rests on, and what was taken then; Rises says that the shelf's count of faults rose
 abbrev pub IsCause : Stage (List ℕ) → Type 0 → Output → Cause → Type 0
@@ -50,18 +50,18 @@ pub record Writes {Y : Type 0} (taken : Y → Option (List ℕ)) (out_faults : Y
 
 -- the text that the words ask for was taken whole
 abbrev pub IsDone : Call → Type 0
-IsDone call = Wrote (Written call.told call.words) call.out
+IsDone call = Wrote (TextFor call.told call.words) call.out
 
 -- this is the cause for which it was not
 abbrev pub IsCauseOf : Call → Cause → Type 0
-IsCauseOf call cause = IsCause (Written call.told call.words) (ReadFailed call) call.out cause
+IsCauseOf call cause = IsCause (TextFor call.told call.words) (ReadFailed call) call.out cause
 
 -- a cause of this status was told to `err`, whole or, where its count of faults rose, in part
 pub record IsAnswered (call : Call) (err : Output) (status : ℕ) : Type 0 where
   pub cause : Cause
   pub is_status : status ≡ status_of cause
   pub rests : IsCauseOf call cause
-  pub message : (err.new ≡ appended err.old (message_of cause)) ⊎ (TookPrefix err.old err.new (message_of cause) × Failed err)
+  pub message : (err.new ≡ appended err.old (message_of cause)) ⊎ (TookPrefix err.old err.new (message_of cause) × WriteFailed err)
 
 -- ---- the status that is due
 
@@ -73,9 +73,9 @@ IsDueFor text_of status =
 
 -- the status that is due for the words, where a shelf holds these files
 abbrev pub IsDue : List (List ℕ) → Holding → ℕ → Type 0
-IsDue words held status = IsDueFor (Written (Some held) words) status
+IsDue words held status = IsDueFor (TextFor (Some held) words) status
 
 -- the status is the one that is due; or memory ran out; or it is 3 or 4, and a count of faults rose
 abbrev pub IsDueOrFault : Call → ℕ → ℕ → Type 0
 IsDueOrFault call due status =
-    (status ≡ due) ⊎ ((status ≡ 12) ⊎ (((status ≡ 3) × ReadFailed call) ⊎ ((status ≡ 4) × Failed call.out)))
+    (status ≡ due) ⊎ ((status ≡ 12) ⊎ (((status ≡ 3) × ReadFailed call) ⊎ ((status ≡ 4) × WriteFailed call.out)))

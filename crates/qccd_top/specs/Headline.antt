@@ -13,7 +13,7 @@ use Rattle.tracer.specs.TimeOrder.{listed_ops, KeepsBoundsListed}
 use Rattle.qccd_words.specs.Words.{AskedMachine, AskedRun, request_of}
 use Rattle.qccd_top.specs.Stage.{Gives}
 use Rattle.qccd_top.specs.Stages.{MachineIn, CircuitIn}
-use Rattle.qccd_top.specs.Call.{Call, Failed}
+use Rattle.qccd_top.specs.Call.{Call, WriteFailed}
 
 -- the words ask for a run of this circuit on this machine, within its slots, and this is the program of it
 pub record IsMeant (call : Call) (machine : MachineData) (circuit : CircuitData) (program : ProgramData) : Type 0 where
@@ -57,4 +57,4 @@ pub record IsCutReport (call : Call) : Type 0 where
   pub program : ProgramData
   pub is_run : IsRunOf call program
   pub prefix : TookPrefix call.out.old call.out.new (report_text program)
-  pub rose : Failed call.out
+  pub rose : WriteFailed call.out

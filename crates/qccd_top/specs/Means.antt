@@ -24,5 +24,5 @@ TextOf told (AskedRun machine circuit workers mode) = do
   Just (report_text p)
 
 -- what is written for these words
-abbrev pub Written : Option Holding → List (List ℕ) → Stage (List ℕ)
-Written told words = WordsOf words >>= TextOf told
+abbrev pub TextFor : Option Holding → List (List ℕ) → Stage (List ℕ)
+TextFor told words = WordsOf words >>= TextOf told

@@ -6,11 +6,11 @@ use Rattle.qccd_io.specs.Shelf.{Holding}
 use Rattle.qccd_refusals.specs.declared.refusal.Refusal.{Refusal}
 use Rattle.qccd_refusals.specs.Cause.{Cause, Read, Write, NoMemory, cause_of}
 
--- a stage gives a value, or refuses the command, or is the one that reads the file of this name
+-- a stage gives a value, or refuses the command, or is the one that fetches the file of this name
 pub data Answer (A : Type 0) : Type 0 where
   Gives : (value : A) → Answer A
   Refuses : (cause : Cause) → Answer A
-  Reads : (name : List ℕ) → Answer A
+  Fetches : (name : List ℕ) → Answer A
 
 -- a stage is known by its answers
 abbrev pub Stage : Type 0 → Type 1
@@ -21,7 +21,7 @@ infixl 10 ◌>>=◌ ◌>>◌
 unfoldable pub ◌>>=◌ : {A B : Type 0} → Stage A → (A → Stage B) → Stage B
 ◌>>=◌ {A} first next (Gives value) = (a : A) × first (Gives a) × next a (Gives value)
 ◌>>=◌ {A} first next (Refuses cause) = first (Refuses cause) ⊎ ((a : A) × first (Gives a) × next a (Refuses cause))
-◌>>=◌ {A} first next (Reads name) = first (Reads name) ⊎ ((a : A) × first (Gives a) × next a (Reads name))
+◌>>=◌ {A} first next (Fetches name) = first (Fetches name) ⊎ ((a : A) × first (Gives a) × next a (Fetches name))
 
 abbrev pub ◌>>◌ : {A B : Type 0} → Stage A → Stage B → Stage B
 first >> next = first >>= (λ _. next)
@@ -30,18 +30,18 @@ first >> next = first >>= (λ _. next)
 abbrev pub Just : {A : Type 0} → A → Stage A
 Just a (Gives value) = value ≡ a
 Just a (Refuses cause) = ⊥
-Just a (Reads name) = ⊥
+Just a (Fetches name) = ⊥
 
 -- refused for this cause where P holds, and passed where Q does, which rule each other out
 abbrev pub Test : Type 0 → Cause → Type 0 → Stage (Unit {0})
 Test P why Q (Gives value) = Q
 Test P why Q (Refuses cause) = P × (cause ≡ why)
-Test P why Q (Reads name) = ⊥
+Test P why Q (Fetches name) = ⊥
 
--- What a refusal rests on: the stage refuses for it, or reads the file while the shelf's count of faults
+-- What a refusal rests on: the stage refuses for it, or fetches the file while the shelf's count of faults
 -- rises, or memory runs out. No stage writes.
 abbrev pub IsRefusal : {A : Type 0} → Stage A → Type 0 → Cause → Type 0
-IsRefusal stage Rises (Read name) = stage (Refuses (Read name)) ⊎ (stage (Reads name) × Rises)
+IsRefusal stage Rises (Read name) = stage (Refuses (Read name)) ⊎ (stage (Fetches name) × Rises)
 IsRefusal stage Rises Write = ⊥
 IsRefusal stage Rises NoMemory = Unit {0}
 IsRefusal stage Rises cause = stage (Refuses cause)
@@ -51,11 +51,11 @@ abbrev pub Answered : {A : Type 0} → Stage A → Type 0 → Result A Refusal �
 Answered stage Rises (Ok value) = stage (Gives value)
 Answered stage Rises (Err refusal) = IsRefusal stage Rises (cause_of refusal)
 
--- of a stage that reads no file
+-- of a stage that fetches no file
 pub record IsAnswer {A : Type 0} (stage : Stage A) (result : Result A Refusal) : Type 0 where
   pub answer : Answered stage ⊥ result
 
--- Of a stage that reads files, from one state of the shelf to the next: it answers by what the shelf held at
+-- Of a stage that fetches files, from one state of the shelf to the next: it answers by what the shelf held at
 -- first, and the shelf tells the same afterwards.
 pub record Visits {X A : Type 0} (told : X → Option Holding) (faults : X → ℕ) (old new : X) (stage : Option Holding → Stage A) (result : Result A Refusal) : Type 0 where
   pub answer : Answered (stage (told old)) (Rose (faults old) (faults new)) result

@@ -10,14 +10,14 @@ use Rattle.qasm_reader.specs.Reading.{IsCircuitOf, IsRefused}
 use Rattle.qccd_words.specs.Words.{AskedMachine, OfPreset, OfFile, Asked, request_of}
 use Rattle.qccd_refusals.specs.Cause.{Cause, Words, Read, TooLarge, Machine, NotBuilt, Circuit, Shortage}
 use Rattle.qccd_top.specs.declared.limits.TheConstants.{CIRCUIT_LIMIT, MACHINE_LIMIT}
-use Rattle.qccd_top.specs.Stage.{Answer, Gives, Refuses, Reads, Stage, ◌>>=◌, Just, Test}
+use Rattle.qccd_top.specs.Stage.{Answer, Gives, Refuses, Fetches, Stage, ◌>>=◌, Just, Test}
 
 -- what the words ask for
 abbrev pub WordsOf : List (List ℕ) → Stage Asked
 WordsOf words (Gives asked) = request_of words ≡ Some asked
 WordsOf words (Refuses Words) = request_of words ≡ None
 WordsOf words (Refuses cause) = ⊥
-WordsOf words (Reads name) = ⊥
+WordsOf words (Fetches name) = ⊥
 
 -- the bytes of the file of this name, of which there are at most `limit`
 abbrev pub FileIn : Option Holding → List ℕ → ℕ → Stage (List ℕ)
@@ -25,14 +25,14 @@ FileIn told name limit (Gives text) = HoldsFile told name text × (length text �
 FileIn told name limit (Refuses (Read n)) = (n ≡ name) × Lacks told name
 FileIn told name limit (Refuses (TooLarge n most)) = (n ≡ name) × (most ≡ limit) × HoldsMoreThan told name limit
 FileIn told name limit (Refuses cause) = ⊥
-FileIn told name limit (Reads n) = n ≡ name
+FileIn told name limit (Fetches n) = n ≡ name
 
 -- the machine of a text
 abbrev pub MachineOf : List ℕ → Stage MachineData
 MachineOf text (Gives m) = IsMachineOf text m
 MachineOf text (Refuses (Machine fault)) = IsRefusalOf text fault
 MachineOf text (Refuses cause) = ⊥
-MachineOf text (Reads name) = ⊥
+MachineOf text (Fetches name) = ⊥
 
 -- the machine that a word names
 abbrev pub MachineIn : Option Holding → AskedMachine → Stage MachineData
@@ -52,7 +52,7 @@ abbrev pub CircuitOf : List ℕ → Stage CircuitData
 CircuitOf text (Gives c) = IsCircuitOf text c
 CircuitOf text (Refuses (Circuit at kind)) = IsRefused text at kind
 CircuitOf text (Refuses cause) = ⊥
-CircuitOf text (Reads name) = ⊥
+CircuitOf text (Fetches name) = ⊥
 
 -- the circuit in the file of this name
 abbrev pub CircuitIn : Option Holding → List ℕ → Stage CircuitData

@@ -4,7 +4,7 @@ ghost use Rattle.std.specs.Prelude.{◌≡◌, None, IsErrAnd, map, string_bytes
 ghost use Rattle.qccd_io.specs.Shelf.{NoneIsOut};
 ghost use Rattle.qccd_words.specs.Words.{AskedRun, asked, machine_asked, request_of};
 ghost use Rattle.qccd_refusals.specs.Cause.{Words, cause_of};
-ghost use Rattle.qccd_top.specs.Means.{Written};
+ghost use Rattle.qccd_top.specs.Means.{TextFor};
 ghost use Rattle.qccd_top.specs.Done.{Does};
 
 use crate::output::write_report;
@@ -23,7 +23,7 @@ pub fn answer<'a, F: Shelf, O: Sink>(
     out: &mut O,
 ) -> Result<(), Refusal<'a>>
     requires { NoneIsOut (F.told shelf.old) }
-    ensures does { Does F.told F.faults O.taken O.faults shelf.old shelf.new out.old out.new (λ told. Written told (map string_bytes words.now)) result }
+    ensures does { Does F.told F.faults O.taken O.faults shelf.old shelf.new out.old out.new (λ told. TextFor told (map string_bytes words.now)) result }
     // Memory does not run out before the words are judged.
     ensures words { request_of (map string_bytes words.now) ≡ None → IsErrAnd result (λ r. cause_of r ≡ Words) }
 {

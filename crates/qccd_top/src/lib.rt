@@ -2,12 +2,19 @@
 #![tactic(auto)]
 
 mod answer;
+mod edge;
+pub mod laws;
 mod limits;
+#[cfg(test)]
+mod machine_tests;
 mod output;
 mod program;
 mod stages;
+#[cfg(test)]
+mod tests;
 mod top;
 
 pub use limits::{CIRCUIT_LIMIT, MACHINE_LIMIT, PROGRAM_LIMIT};
 pub use qccd_words::{Command, MachineWord, request};
+pub use edge::start;
 pub use top::{Status, run};
