@@ -1,1 +1,11 @@
+pub mod Clocks
+pub mod Faithfully
+pub mod FirstCells
 pub mod Meets
+pub mod MeetsCells
+pub mod Rising
+pub mod Runs
+pub mod Stepping
+pub mod Tables
+pub mod Turning
+pub mod Worlds
