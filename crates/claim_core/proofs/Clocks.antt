@@ -27,12 +27,12 @@ greatest_lift b f n (r ∷ rs) = lift_step (b r) (list_any b rs) n (f r) (greate
 
 pub meets_same : (a b : OpKind) → meets a b ≡ meets b a
 meets_same a b = elim (cases_Bool (meets a b)) [
-    | inr h ↦ h ∙ sym (meets_sym a b h)
-    | inl h ↦ elim (cases_Bool (meets b a)) [
-      | inl k ↦ h ∙ sym k
-      | inr k ↦ absurd (false≢true (sym (meets_sym b a k) ∙ h))
-    ]
+  | inr h ↦ h ∙ sym (meets_sym a b h)
+  | inl h ↦ elim (cases_Bool (meets b a)) [
+    | inl k ↦ h ∙ sym k
+    | inr k ↦ absurd (false≢true (sym (meets_sym b a k) ∙ h))
   ]
+]
 
 none_greatest : (rs : List Res) → greatest (map (λ (r : Res). 0) rs) ≡ 0
 none_greatest [] = refl

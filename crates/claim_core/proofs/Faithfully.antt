@@ -71,19 +71,21 @@ faithful-step m s ops turn z k op safe all run is turns at =
     maps_same (touches op) (content z) (content b) (λ r h. at.holds r ∙ ap (held_at m s ops r) (turns r h) ∙ held-own m s ops k r) in
     let legal : why m z op ≡ None = sym (why-on m z op at.safe facts.2) ∙ ap₂ (λ (n : ℕ) (cs : List Content). why_on m n op cs) bits found ∙ why-on m b op facts.1 facts.2 ∙ facts.0 in
     let left : map (content (effect m z op)) (touches op) ≡ map (content (effect m b op)) (touches op) =
-    content-touched m z op at.safe facts.2 legal ∙ ap (acted m op) found ∙ sym (content-touched m b op facts.1 facts.2 facts.0) in
-    (legal, record {
-      safe = safe-effect m z op at.safe facts.2 legal;
-      bits = bits_kept m z op ∙ at.bits;
-      holds = λ r. elim (cases_Bool (among (touches op) r)) [
-        | inl h ↦
-            let one : nth ops k r + 1 ≡ turn r + one_of op r = ap₂ (λ (n : ℕ) (b : Bool). n + cond b 1 0) (sym (turns r h)) (sym h) in
-            map_at (touches op) (content (effect m z op)) (content (effect m b op)) r left h ∙ sym (held-next m s ops k op r is h) ∙ ap (held_at m s ops r) one
-        | inr h ↦
-            let none : turn r ≡ turn r + one_of op r = add_none (turn r) ∙ ap (λ (b : Bool). turn r + cond b 1 0) (sym h) in
-            content-untouched m z op r h ∙ at.holds r ∙ ap (held_at m s ops r) none
-      ];
-    })
+    content-touched m z op at.safe facts.2 legal ∙ ap (acted m op) found ∙ sym (content-touched m b op facts.1 facts.2 facts.0) in (
+      legal,
+      record {
+        safe = safe-effect m z op at.safe facts.2 legal;
+        bits = bits_kept m z op ∙ at.bits;
+        holds = λ r. elim (cases_Bool (among (touches op) r)) [
+          | inl h ↦
+              let one : nth ops k r + 1 ≡ turn r + one_of op r = ap₂ (λ (n : ℕ) (b : Bool). n + cond b 1 0) (sym (turns r h)) (sym h) in
+              map_at (touches op) (content (effect m z op)) (content (effect m b op)) r left h ∙ sym (held-next m s ops k op r is h) ∙ ap (held_at m s ops r) one
+          | inr h ↦
+              let none : turn r ≡ turn r + one_of op r = add_none (turn r) ∙ ap (λ (b : Bool). turn r + cond b 1 0) (sym h) in
+              content-untouched m z op r h ∙ at.holds r ∙ ap (held_at m s ops r) none
+        ];
+      },
+    )
   where
     add_none : (n : ℕ) → n ≡ n + 0
     add_none n = omega arith
@@ -107,7 +109,7 @@ faithful-end m s ops v safe all run faithful last =
     let whole = faithful-run m s ops (λ r. 0) s v safe all run faithful (at_start m s ops safe) in
     let ends = run_safe m s ops safe all run in
     state_decided m (after m s (map (λ e. e.1) v)) (after m s ops) whole.1.safe ends.0 (whole.1.bits ∙ sym ends.1)
-        (λ r. whole.1.holds r ∙ ap (held_at m s ops r) (last r) ∙ held-end m s ops r)
+    (λ r. whole.1.holds r ∙ ap (held_at m s ops r) (last r) ∙ held-end m s ops r)
 
 -- of a program
 pub program-run : (p : ProgramData) (v : List (ℕ × OpKind)) → IsLegalProgram p → IsFaithful p.ops (λ r. 0) v → IsRun p.machine (opening_of p) (map (λ e. e.1) v)

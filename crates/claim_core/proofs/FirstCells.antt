@@ -18,14 +18,14 @@ use Rattle.op_table.specs.declared.contents.Content.{Content}
 use Rattle.op_table.specs.declared.contents.Entry.{Entry}
 use Rattle.op_table.specs.Contents.{seek, entry_of, entry_at, chain, rider_of, carry_of, content}
 use Rattle.op_table.specs.Act.{trap_of}
-use Rattle.op_cells.specs.Numbering.{index_of, IsThere}
+use Rattle.op_cells.specs.Numbering.{count_of, index_of, IsThere}
 use Rattle.claim_core.specs.Legal.{IsLegalProgram}
 use Rattle.op_cells.specs.Acted.{CellData}
 use Rattle.claim_core.specs.CellOfRun.{IsCell, cell_at, cell_in, firsts}
 use Rattle.claim_core.specs.World.{world_after, opening_world}
 use Rattle.claim_core.specs.AllCells.{AtTurns, AtStep}
 use Rattle.claim_core.specs.First.{start_entry, IsContentAt, FirstCells}
-use Rattle.claim_core.specs.Turns.{Counts, up_one, first_counted}
+use Rattle.claim_core.specs.Turns.{Counts, counted_up, first_counted}
 use Rattle.op_table.proofs.Counts.{count_by-cons, find_none, find-map, same_gets}
 use Rattle.op_table.proofs.Chains.{chain-get}
 use Rattle.op_table.proofs.Openings.{is_ion, ion_times, in_all, place_in, in_trap_only, opening-safe, ion_below}
@@ -42,10 +42,10 @@ numbered f a (suc n) = ap (λ (xs : List (ℕ × Stand)). (a, f a) ∷ xs) (numb
 find_one : (p : ℕ → Bool) (x a n : ℕ) → ((i : ℕ) → a ≤ i → i < a + n → p i ≡ eqb x i) → a ≤ x → x < a + n → find p (range_with_len a n) ≡ Some x
 find_one p x a zero each low high = absurd (omega arith)
 find_one p x a (suc n) each low high = elim (cases_eq x a) [
-    | inl h ↦ ap (λ (b : Bool). cond b (Some a) (find p (range_with_len (a + 1) n))) (each a (omega arith) (omega arith) ∙ eq-eqb x a h) ∙ ap Some (sym h)
-    | inr h ↦ ap (λ (b : Bool). cond b (Some a) (find p (range_with_len (a + 1) n))) (each a (omega arith) (omega arith) ∙ ne_eqb x a h)
-        ∙ find_one p x (a + 1) n (λ i down up. each i (omega arith) (omega arith)) (grind arith) (omega arith)
-  ]
+  | inl h ↦ ap (λ (b : Bool). cond b (Some a) (find p (range_with_len (a + 1) n))) (each a (omega arith) (omega arith) ∙ eq-eqb x a h) ∙ ap Some (sym h)
+  | inr h ↦ ap (λ (b : Bool). cond b (Some a) (find p (range_with_len (a + 1) n))) (each a (omega arith) (omega arith) ∙ ne_eqb x a h)
+      ∙ find_one p x (a + 1) n (λ i down up. each i (omega arith) (omega arith)) (grind arith) (omega arith)
+]
 
 find_no : (p : ℕ → Bool) (a n : ℕ) → ((i : ℕ) → a ≤ i → i < a + n → p i ≡ false) → find p (range_with_len a n) ≡ None
 find_no p a zero each = refl
@@ -58,12 +58,12 @@ entry_start : (m : MachineData) (n bits : ℕ) (chains : List (List Ion)) → Is
 entry_start m n bits chains start t k None is =
     let st : ℕ → Stand = λ i. record { place = place_from 0 chains i; qubit = record { 0 = i } } in
     ap (option_map entry_of) (seek_range (is_at t k) st n ∙ ap (option_map (λ i. (i, st i))) (find_no (λ i. is_at t k (place_from 0 chains i)) 0 n
-        (λ i down up. place_in chains 0 i t t k (omega arith) (start.once i ∙ rw (lt-ltb i n (omega arith)) refl) ∙ ap (is_ion i) is)))
+    (λ i down up. place_in chains 0 i t t k (omega arith) (start.once i ∙ rw (lt-ltb i n (omega arith)) refl) ∙ ap (is_ion i) is)))
 entry_start m n bits chains start t k (Some x) is =
     let st : ℕ → Stand = λ i. record { place = place_from 0 chains i; qubit = record { 0 = i } } in
     let low : x.0 < n = ion_below m n chains start t k x is in
     ap (option_map entry_of) (seek_range (is_at t k) st n ∙ ap (option_map (λ i. (i, st i))) (find_one (λ i. is_at t k (place_from 0 chains i)) x.0 0 n
-        (λ i down up. place_in chains 0 i t t k (omega arith) (start.once i ∙ rw (lt-ltb i n (omega arith)) refl) ∙ ap (is_ion i) is) (omega arith) (omega (arith, low))))
+    (λ i down up. place_in chains 0 i t t k (omega arith) (start.once i ∙ rw (lt-ltb i n (omega arith)) refl) ∙ ap (is_ion i) is) (omega arith) (omega (arith, low))))
 
 mapped_get : {X Y : Type 0} (f : X → Y) (xs : List X) (k : ℕ) → slice_get (map f xs) k ≡ option_map f (slice_get xs k)
 mapped_get f [] k = refl
@@ -78,9 +78,9 @@ cold_get (suc n) (suc t) = cold_get n t
 pub trap-start : (m : MachineData) (n bits : ℕ) (chains : List (List Ion)) (t : _) → IsStart m n chains → content (opening n bits chains) (res.Trap t) ≡ trap_of (map start_entry (get_or chains t.0 [])) 0
 trap-start m n bits chains t start =
     ap₂ (λ (es : List Entry) (h : ℕ). trap_of es h)
-        (same_gets (chain (opening n bits chains) t.0) (map start_entry (get_or chains t.0 [])) (λ k.
-            chain-get m (opening n bits chains) t.0 k (opening-safe m n bits chains start) ∙ entry_start m n bits chains start t.0 k (slice_get (get_or chains t.0 []) k) refl ∙ sym (mapped_get start_entry (get_or chains t.0 []) k)))
-        (cold_get (length chains) t.0)
+    (same_gets (chain (opening n bits chains) t.0) (map start_entry (get_or chains t.0 [])) (λ k.
+    chain-get m (opening n bits chains) t.0 k (opening-safe m n bits chains start) ∙ entry_start m n bits chains start t.0 k (slice_get (get_or chains t.0 []) k) refl ∙ sym (mapped_get start_entry (get_or chains t.0 []) k)))
+    (cold_get (length chains) t.0)
 
 pub seg-start : (n bits : ℕ) (chains : List (List Ion)) (g : _) → content (opening n bits chains) (res.Seg g) ≡ holds.Seg None
 seg-start n bits chains g =
@@ -111,18 +111,18 @@ firsts-le (o ∷ ops) (suc k) r = omega (arith, count_by-cons (λ (x : OpKind). 
     one false = omega arith
 
 pub rooms-next : (m : MachineData) (n : ℕ) (ops : List OpKind) (k : ℕ) (op : OpKind) (q : Res) (qs : List Res) (cs : List ℕ) → slice_get ops k ≡ Some op → k < 4194304 → touches op ≡ q ∷ qs → IsThere m n q
-    → Counts m n (firsts (take k ops)) cs → Counts m n (firsts (take (k + 1) ops)) (Rattle.std.specs.Prelude.set cs (index_of m q) (up_one (get_or cs (index_of m q) 0)))
+    → Counts m n (firsts (take k ops)) cs → Counts m n (firsts (take (k + 1) ops)) (counted_up m cs q)
 rooms-next m n ops k op q qs cs is few touch there counts =
     let one : suc k ≡ k + 1 = omega arith in
     counts_alike m n (λ r. firsts (take k ops) r + cond (same_res q r) 1 0) (firsts (take (k + 1) ops)) _
-        (λ r. ap (λ (ts : List Res). firsts (take k ops) r + cond (is_head ts r) 1 0) (sym touch) ∙ sym (took (λ (x : OpKind). is_first x r) ops k op is) ∙ ap (λ (j : ℕ). firsts (take j ops) r) one)
-        (set_counts m n (firsts (take k ops)) cs q counts there (omega (arith, few, firsts-le ops k q)))
+    (λ r. ap (λ (ts : List Res). firsts (take k ops) r + cond (is_head ts r) 1 0) (sym touch) ∙ sym (took (λ (x : OpKind). is_first x r) ops k op is) ∙ ap (λ (j : ℕ). firsts (take j ops) r) one)
+    (set_counts m n (firsts (take k ops)) cs q counts there (omega (arith, few, firsts-le ops k q)))
 
 pub rooms-none : (m : MachineData) (n : ℕ) (ops : List OpKind) (k : ℕ) (op : OpKind) (cs : List ℕ) → slice_get ops k ≡ Some op → touches op ≡ [] → Counts m n (firsts (take k ops)) cs → Counts m n (firsts (take (k + 1) ops)) cs
 rooms-none m n ops k op cs is touch counts =
     let one : suc k ≡ k + 1 = omega arith in
     counts_alike m n (firsts (take k ops)) (firsts (take (k + 1) ops)) cs
-        (λ r. add_none (firsts (take k ops) r) ∙ ap (λ (ts : List Res). firsts (take k ops) r + cond (is_head ts r) 1 0) (sym touch) ∙ sym (took (λ (x : OpKind). is_first x r) ops k op is) ∙ ap (λ (j : ℕ). firsts (take j ops) r) one) counts
+    (λ r. add_none (firsts (take k ops) r) ∙ ap (λ (ts : List Res). firsts (take k ops) r + cond (is_head ts r) 1 0) (sym touch) ∙ sym (took (λ (x : OpKind). is_first x r) ops k op is) ∙ ap (λ (j : ℕ). firsts (take j ops) r) one) counts
   where
     add_none : (n : ℕ) → n ≡ n + 0
     add_none n = omega arith
@@ -138,13 +138,15 @@ first-next p i cells c rooms counts firsts_ is free empty spare = record {
     | inr past ↦
         let same : index_of p.machine r ≡ i = omega (arith, less, past) in
         let own : cell_at p r 0 ≡ cell_in (opening_world p) r = turn-first cell_in (world_after p.machine) (cell-others p.machine) (opening_world p) p.ops r in
-        let room : get_or rooms i 0 ≡ firsts p.ops r = ap (λ (j : ℕ). get_or rooms j 0) (sym same) ∙ get_or_from_slice_get rooms (index_of p.machine r) (firsts p.ops r) 0 (counts.each r there) in
-        (c, ap (slice_get (cells ++ c ∷ [])) same ∙ get_last cells c i firsts_.long,
-          record { content = is r there same ∙ ap (λ (d : CellData). d.content) (sym own); clock = free ∙ ap (λ (d : CellData). d.clock) (sym own); log = empty ∙ ap (λ (d : CellData). d.log) (sym own); room = omega (arith, room, spare) })
+        let room : get_or rooms i 0 ≡ firsts p.ops r = ap (λ (j : ℕ). get_or rooms j 0) (sym same) ∙ get_or_from_slice_get rooms (index_of p.machine r) (firsts p.ops r) 0 (counts.each r there) in (
+          c,
+          ap (slice_get (cells ++ c ∷ [])) same ∙ get_last cells c i firsts_.long,
+          record { content = is r there same ∙ ap (λ (d : CellData). d.content) (sym own); clock = free ∙ ap (λ (d : CellData). d.clock) (sym own); log = empty ∙ ap (λ (d : CellData). d.log) (sym own); room = omega (arith, room, spare) },
+        )
   ];
 }
 
-pub first-all : (p : ProgramData) (n : ℕ) (cells : List Cell) → n ≡ length p.machine.capacities + length p.machine.segments + p.machine.junctions + p.bits → FirstCells p n cells → AtStep p 0 cells
+pub first-all : (p : ProgramData) (n : ℕ) (cells : List Cell) → n ≡ count_of p.machine p.bits → FirstCells p n cells → AtStep p 0 cells
 first-all p n cells is firsts_ = record { long = firsts_.long ∙ is; each = λ r there. firsts_.each r there (let a = index-within p.machine p.bits r there in omega (arith, a, is)) }
 
 pub no-first : (p : ProgramData) → FirstCells p 0 []
@@ -152,7 +154,7 @@ no-first p = record { long = refl; each = λ r there less. absurd (omega arith) 
 
 -- ---- the loops
 
-pub rooms-start : (m : MachineData) (n : ℕ) (ops : List OpKind) (cs : List ℕ) → cs ≡ replicate (length m.capacities + length m.segments + m.junctions + n) 0 → Counts m n (firsts (take 0 ops)) cs
+pub rooms-start : (m : MachineData) (n : ℕ) (ops : List OpKind) (cs : List ℕ) → cs ≡ replicate (count_of m n) 0 → Counts m n (firsts (take 0 ops)) cs
 rooms-start m n ops cs is = counts_alike m n (nth ops 0) (firsts (take 0 ops)) cs (λ r. refl) (Rattle.claim_core.proofs.Tables.counts-start m n ops cs is)
 
 pub may-note : (m : MachineData) (n : ℕ) (ops : List OpKind) (k : ℕ) (op : OpKind) (cs : List ℕ) (rs : List Res) → rs ≡ touches op → ((j : ℕ) (o : OpKind) (r : Res) → slice_get ops j ≡ Some o → among (touches o) r ≡ true → IsThere m n r) → op ≡ get_or ops k op → k < length ops
@@ -186,16 +188,23 @@ junc-at p i low high (res.Seg g) there at = absurd (omega (arith, low, there, at
 junc-at p i low high (res.Junc j) there at = sym (junc-start p.qubits p.bits p.start j)
 junc-at p i low high (res.Bit b) there at = absurd (omega (arith, high, at))
 
-pub trap-read : (p : ProgramData) (i : ℕ) (es : List Entry) (is : List Ion) → IsLegalProgram p → i < length p.machine.capacities → es ≡ map start_entry is → is ≡ get_or p.start i is → IsContentAt p i (trap_of es 0)
-trap-read p i es is legal less made read =
-    let within : i < length p.start = omega (arith, legal.start.chains, less) in
-    let same : get_or p.start i [] ≡ get_or p.start i is = get_or_from_slice_get p.start i (get_or p.start i is) [] (Rattle.std.proofs.lemmas.Option.slice_get-get_or p.start i is within) in
-    trap-at p i es legal less (made ∙ ap (map start_entry) (read ∙ sym same))
+pub trap-read : (p : ProgramData) (i : ℕ) (es : List Entry) (ions : List Ion) → IsLegalProgram p → i < length p.machine.capacities → es ≡ map start_entry ions → slice_get p.start i ≡ Some ions → IsContentAt p i (trap_of es 0)
+trap-read p i es ions legal less made read = trap-at p i es legal less (made ∙ ap (map start_entry) (sym (get_or_from_slice_get p.start i ions [] read)))
+
+pub bit-at : (p : ProgramData) (i : ℕ) → length p.machine.capacities + length p.machine.segments + p.machine.junctions ≤ i → IsContentAt p i holds.Bit
+bit-at p i low (res.Trap t) there at = absurd (omega (arith, low, there, at))
+bit-at p i low (res.Seg g) there at = absurd (omega (arith, low, there, at))
+bit-at p i low (res.Junc j) there at = absurd (omega (arith, low, there, at))
+bit-at p i low (res.Bit b) there at = refl
 
 -- the loop over the rooms, for what was read of the program
-pub next-first : (p : ProgramData) (m : MachineData) (n : ℕ) (ops : List OpKind) (i at : ℕ) (cells : List Cell) (c : Cell) (rooms rs : List ℕ) → m ≡ p.machine → n ≡ p.bits → ops ≡ p.ops → Counts m n (firsts ops) rooms → FirstCells p i cells → at ≡ length cells → IsContentAt p at c.content → c.free_at ≡ 0
+pub next-first : (p : ProgramData) (i at : ℕ) (cells : List Cell) (c : Cell) (rooms rs : List ℕ) → Counts p.machine p.bits (firsts p.ops) rooms → FirstCells p i cells → at ≡ length cells → IsContentAt p at c.content → c.free_at ≡ 0
     → rs ≡ rooms → c.log ≡ record { entries = []; spare = get_or rs i 0 } → FirstCells p (i + 1) (cells ++ c ∷ [])
-next-first p m n ops i at cells c rooms rs machine bits listed counts firsts_ place is free shown log =
+next-first p i at cells c rooms rs counts firsts_ place is free shown log =
     let here : at ≡ i = place ∙ firsts_.long in
-    let own : Counts p.machine p.bits (firsts p.ops) rooms = subst (λ (k : MachineData). Counts k p.bits (firsts p.ops) rooms) machine (subst (λ (b : ℕ). Counts m b (firsts p.ops) rooms) bits (subst (λ (os : List OpKind). Counts m n (firsts os) rooms) listed counts)) in
-    first-next p i cells c rooms own firsts_ (subst (λ (j : ℕ). IsContentAt p j c.content) here is) free (ap (λ l. l.entries) log) (ap (λ l. l.spare) log ∙ ap (λ (xs : List ℕ). get_or xs i 0) shown)
+    first-next p i cells c rooms counts firsts_ (subst (λ (j : ℕ). IsContentAt p j c.content) here is) free (ap (λ l. l.entries) log) (ap (λ l. l.spare) log ∙ ap (λ (xs : List ℕ). get_or xs i 0) shown)
+
+-- the rooms of the program, by what was read of it
+pub rooms-read : (p : ProgramData) (m : MachineData) (n : ℕ) (ops : List OpKind) (rooms : List ℕ) → m ≡ p.machine → n ≡ p.bits → ops ≡ p.ops → Counts m n (firsts ops) rooms → Counts p.machine p.bits (firsts p.ops) rooms
+rooms-read p m n ops rooms machine bits listed counts =
+    subst (λ (k : MachineData). Counts k p.bits (firsts p.ops) rooms) machine (subst (λ (b : ℕ). Counts m b (firsts p.ops) rooms) bits (subst (λ (os : List OpKind). Counts m n (firsts os) rooms) listed counts))

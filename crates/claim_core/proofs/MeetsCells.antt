@@ -64,7 +64,7 @@ bounded_at m w (o ∷ ops) (suc k) n h valid safe all run low cool =
     let long : duration m o ≤ 93000000 = Rattle.op_table.proofs.LongestStep.duration-le m w.state o (effect m w.state o) valid safe (record { kept = all.0; legal = run.0; leaves = refl }) in
     let start : start_after w.earlier o ≤ n = below_start n w.earlier o low in
     let rest = bounded_at m (world_after m w o) ops k (n + 93000000) (h + 200) valid (safe-effect m w.state o safe all.0 run.0) all.1 run.1
-        (omega (arith, long, start), below_more n (n + 93000000) w.earlier (omega arith) low) (omega (arith, cool, heat-step m w.state o safe run.0)) in
+    (omega (arith, long, start), below_more n (n + 93000000) w.earlier (omega arith) low) (omega (arith, cool, heat-step m w.state o safe run.0)) in
     let z : World = stepped (world_after m) (world_after m w o) (take k ops) in
     (subst (λ (j : ℕ). Below j z.earlier) (further n k) rest.0, omega (arith, rest.1))
   where

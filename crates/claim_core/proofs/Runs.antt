@@ -30,7 +30,6 @@ pub run_safe : (m : MachineData) (s : State) (ops : List OpKind) → IsSafe m s 
 run_safe m s [] safe all run = (safe, refl)
 run_safe m s (o ∷ ops) safe all run = let rest = run_safe m (effect m s o) ops (safe-effect m s o safe all.0 run.0) all.1 run.1 in (rest.0, rest.1 ∙ bits_kept m s o)
 
-
 all_taken : {X : Type 0} (P : X → Type 0) (xs : List X) (k : ℕ) → AllByRecursion P xs → AllByRecursion P (take k xs)
 all_taken P xs zero all = tt
 all_taken P [] (suc k) all = tt

@@ -46,13 +46,16 @@ among_with r q (x ∷ qs) h = go (same_res q x) (comes_before q x) h (λ k. amon
     either_way : (a b c : Bool) → (b || c) ≡ true → (a || (b || c)) ≡ true
     either_way true b c h = refl
     either_way false b c h = h
+
     turned : (a b c : Bool) → ((b || c) ≡ true → (a || c) ≡ true) → (b || c) ≡ true → (a || (b || c)) ≡ true
     turned true b c f h = refl
     turned false b c f h = h
+
     moved : (a b c d : Bool) → (c ≡ true → (a || d) ≡ true) → (b || c) ≡ true → (a || (b || d)) ≡ true
     moved true b c d f h = refl
     moved false true c d f h = refl
     moved false false c d f h = f h
+
     go : (a b : Bool) → among (if a then x ∷ qs else (if b then q ∷ x ∷ qs else x ∷ with_res q qs)) r ≡ true → (among (with_res q qs) r ≡ true → (same_res q r || among qs r) ≡ true) → (same_res q r || (same_res x r || among qs r)) ≡ true
     go true b k rest = either_way (same_res q r) (same_res x r) (among qs r) k
     go false true k rest = k
@@ -69,9 +72,9 @@ among_ascending r (q ∷ rs) h = later (same_res q r) (among (ascending rs) r) (
 each_at : (P : Res → Type 0) (rs : List Res) (r : Res) → AllByRecursion P rs → among rs r ≡ true → P r
 each_at P [] r all at = absurd (false≢true at)
 each_at P (q ∷ rs) r all at = elim (or_cases (same_res q r) (among rs r) at) [
-    | inl h ↦ subst P (same_res_is q r h) all.0
-    | inr h ↦ each_at P rs r all.1 h
-  ]
+  | inl h ↦ subst P (same_res_is q r h) all.0
+  | inr h ↦ each_at P rs r all.1 h
+]
 
 bits_there : (m : MachineData) (n : ℕ) (bs : List Bit) → list_all (λ b. nat_lt b.0 n) bs ≡ true → AllByRecursion (IsThere m n) (map res.Bit bs)
 bits_there m n [] h = tt
@@ -119,7 +122,7 @@ reads_own : (p : ProgramData) (k : ℕ) (op : OpKind) (cells : List Cell) → Is
     → map (read_at p.machine cells) (touches op) ≡ map Some (own_cells p k op)
 reads_own p k op cells legal is at =
     maps_touched (touches op) (read_at p.machine cells) (λ r. Some (cell_at p r (nth p.ops k r)))
-        (λ r in_op. let x = at.each r (own-there p k op r legal is in_op) in ap (option_map data_of) x.1 ∙ ap Some (cell_data p r (nth p.ops k r) x.0 x.2))
+    (λ r in_op. let x = at.each r (own-there p k op r legal is in_op) in ap (option_map data_of) x.1 ∙ ap Some (cell_data p r (nth p.ops k r) x.0 x.2))
     ∙ sym (map_twice Some (λ r. cell_at p r (nth p.ops k r)) (touches op))
 
 all_mapped : {X : Type 0} (P : X → Type 0) (f : Res → X) (rs : List Res) → ((r : Res) → P (f r)) → All P (map f rs)
@@ -139,18 +142,18 @@ may-run p k op cells valid legal is at =
       clocks = all_mapped (λ (d : CellData). d.clock < 2 ^ 62) (λ r. cell_at p r (nth p.ops k r)) (touches op) law.clocks;
       heats = all_mapped (λ (d : CellData). heat_held d.content < 2 ^ 62) (λ r. cell_at p r (nth p.ops k r)) (touches op) law.heats;
       room = λ r c first here.
-        let x = at.each r (own-there p k op r legal is (head_among (touches op) r first)) in
-        let same : x.0 ≡ c = same_Some x.0 c (sym x.1 ∙ here) in
-        let log = ap (λ (es : List _). length es) x.2.log in
-        subst (λ (y : Cell). 0 < y.log.spare) same (omega (arith, x.2.room, log, law.room r first));
+          let x = at.each r (own-there p k op r legal is (head_among (touches op) r first)) in
+          let same : x.0 ≡ c = same_Some x.0 c (sym x.1 ∙ here) in
+          let log = ap (λ (es : List _). length es) x.2.log in
+          subst (λ (y : Cell). 0 < y.log.spare) same (omega (arith, x.2.room, log, law.room r first));
     }
 
 map_same : {Y : Type 0} (xs : List Res) (f g : Res → Y) (r : Res) → map f xs ≡ map g xs → among xs r ≡ true → f r ≡ g r
 map_same [] f g r same at = absurd (false≢true at)
 map_same {Y} (x ∷ xs) f g r same at = elim (or_cases (same_res x r) (among xs r) at) [
-    | inl h ↦ let is : x ≡ r = same_res_is x r h in sym (ap f is) ∙ head same ∙ ap g is
-    | inr h ↦ map_same xs f g r (ap (drop 1) same) h
-  ]
+  | inl h ↦ let is : x ≡ r = same_res_is x r h in sym (ap f is) ∙ head same ∙ ap g is
+  | inr h ↦ map_same xs f g r (ap (drop 1) same) h
+]
   where
     head : f x ∷ map f xs ≡ g x ∷ map g xs → f x ≡ g x
     head e = cc
@@ -174,18 +177,18 @@ ran_suc p k op old new valid legal is at ran =
     record {
       long = ran.long ∙ at.long;
       each = λ r there.
-        let x = at.each r there in
-        elim (cases_Bool (among (touches op) r)) [
-          | inl h ↦
-              let turn : nth p.ops k r + 1 ≡ nth p.ops (suc k) r = ap (λ (b : Bool). nth p.ops k r + cond b 1 0) (sym h) ∙ sym (nth-own p.ops k op r is) in
-              let y = some_read new (index_of p.machine r) (cell_at p r (nth p.ops k r + 1)) (map_same (touches op) (read_at p.machine new) (λ r. Some (cell_at p r (nth p.ops k r + 1))) r reads h) in
-              let same : data_of y.0 ≡ cell_at p r (nth p.ops (suc k) r) = y.2 ∙ ap (cell_at p r) turn in
-              let room = room_kept old new (index_of p.machine r) x.0 y.0 (ran.room (index_of p.machine r)) x.1 y.1 in
-              (y.0, y.1, record { content = ap (λ (d : CellData). d.content) same; clock = ap (λ (d : CellData). d.clock) same; log = ap (λ (d : CellData). d.log) same; room = omega (arith, room, x.2.room) })
-          | inr h ↦
-              let none : nth p.ops k r ≡ nth p.ops (suc k) r = add_none (nth p.ops k r) ∙ ap (λ (b : Bool). nth p.ops k r + cond b 1 0) (sym h) ∙ sym (nth-own p.ops k op r is) in
-              (x.0, ran.others r there h ∙ x.1, subst (λ (n : ℕ). IsCell p r n x.0) none x.2)
-        ];
+          let x = at.each r there in
+          elim (cases_Bool (among (touches op) r)) [
+            | inl h ↦
+                let turn : nth p.ops k r + 1 ≡ nth p.ops (suc k) r = ap (λ (b : Bool). nth p.ops k r + cond b 1 0) (sym h) ∙ sym (nth-own p.ops k op r is) in
+                let y = some_read new (index_of p.machine r) (cell_at p r (nth p.ops k r + 1)) (map_same (touches op) (read_at p.machine new) (λ r. Some (cell_at p r (nth p.ops k r + 1))) r reads h) in
+                let same : data_of y.0 ≡ cell_at p r (nth p.ops (suc k) r) = y.2 ∙ ap (cell_at p r) turn in
+                let room = room_kept old new (index_of p.machine r) x.0 y.0 (ran.room (index_of p.machine r)) x.1 y.1 in
+                (y.0, y.1, record { content = ap (λ (d : CellData). d.content) same; clock = ap (λ (d : CellData). d.clock) same; log = ap (λ (d : CellData). d.log) same; room = omega (arith, room, x.2.room) })
+            | inr h ↦
+                let none : nth p.ops k r ≡ nth p.ops (suc k) r = add_none (nth p.ops k r) ∙ ap (λ (b : Bool). nth p.ops k r + cond b 1 0) (sym h) ∙ sym (nth-own p.ops k op r is) in
+                (x.0, ran.others r there h ∙ x.1, subst (λ (n : ℕ). IsCell p r n x.0) none x.2)
+          ];
     }
   where
     add_none : (n : ℕ) → n ≡ n + 0
@@ -203,13 +206,14 @@ may-read p m ops k op cells same listed valid legal is less at =
     subst (λ (n : MachineData). MayRun n op cells) (sym same) (may-run p k op cells valid legal (read_op p ops k op listed is less) at)
 
 pub next-read : (p : ProgramData) (m : MachineData) (ops : List OpKind) (k : ℕ) (op : OpKind) (old new : List Cell) → m ≡ p.machine → ops ≡ p.ops → IsValid p.machine → IsLegalProgram p → op ≡ get_or ops k op → k < length ops → AtStep p k old
-    → ((bits : ℕ) → Ran m bits k op old new) → (k + 1 ≤ length p.ops) × AtStep p (k + 1) new
+    → ((bits : ℕ) → Ran m bits k op old new) → AtStep p (k + 1) new
 next-read p m ops k op old new same listed valid legal is less at ran =
-    let long : length ops ≡ length p.ops = ap (λ (os : List OpKind). length os) listed in
-    (omega (arith, long, less), ran-next p k op old new valid legal (read_op p ops k op listed is less) at (subst (λ (n : MachineData). Ran n p.bits k op old new) same (ran p.bits)))
+    ran-next p k op old new valid legal (read_op p ops k op listed is less) at (subst (λ (n : MachineData). Ran n p.bits k op old new) same (ran p.bits))
 
-pub parts-there : (p : ProgramData) → IsLegalProgram p → (k : ℕ) (op : OpKind) (r : Res) → slice_get p.ops k ≡ Some op → among (touches op) r ≡ true → IsThere p.machine p.bits r
-parts-there p legal k op r is at = own-there p k op r legal is at
+-- what the operations touch is there
+pub parts-there : (p : ProgramData) (m : MachineData) (n : ℕ) (ops : List OpKind) → m ≡ p.machine → n ≡ p.bits → ops ≡ p.ops → IsLegalProgram p → (k : ℕ) (op : OpKind) (r : Res) → slice_get ops k ≡ Some op → among (touches op) r ≡ true → IsThere m n r
+parts-there p m n ops same bits listed legal k op r is at =
+    subst (λ (b : ℕ). IsThere m b r) (sym bits) (subst (λ (x : MachineData). IsThere x p.bits r) (sym same) (own-there p k op r legal (ap (λ (os : List OpKind). slice_get os k) (sym listed) ∙ is) at))
 
 -- after all operations each resource is at its last turn
 take_all : {X : Type 0} (xs : List X) (k : ℕ) → length xs ≤ k → take k xs ≡ xs

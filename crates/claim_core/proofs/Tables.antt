@@ -1,18 +1,18 @@
 -- The turns of the operations, counted in one pass.
-use Rattle.std.proofs.Common.{◌≡◌, ◌≢◌, ℕ, zero, suc, ◌+◌, ◌-◌, ◌^◌, ◌%◌, ◌<◌, ◌≤◌, inl, inr, Bool, true, false, cond, ◌==◌, if◌then◌else◌, List, [], ◌∷◌, ◌++◌, map, length, take, drop, set, get_or, refl, sym, ◌∙◌, ap, ap₂, subst, arith, Option, Some, None, All, length-set, length-append}
+use Rattle.std.proofs.Common.{◌≡◌, ◌≢◌, ℕ, zero, suc, ◌+◌, ◌-◌, ◌*◌, ◌^◌, ◌%◌, ◌<◌, ◌≤◌, inl, inr, Bool, true, false, cond, ◌==◌, if◌then◌else◌, List, [], ◌∷◌, ◌++◌, map, length, take, drop, set, get_or, refl, sym, ◌∙◌, ap, ap₂, subst, arith, Option, Some, None, All, length-set, length-append}
 use Rattle.std.specs.Prelude.{slice_get}
-use Rattle.std.proofs.lemmas.Bool.{cases_Bool, cases_lt, cases_eq, eq-eqb, ne_eqb, false≢true}
+use Rattle.std.proofs.lemmas.Bool.{cases_Bool, cases_lt, cases_eq, eq-eqb, ne_eqb, false≢true, ltb-true}
 use Rattle.std.proofs.lemmas.Option.{same_Some, none-some, get_or_from_slice_get, slice_get-get_or}
 use Rattle.std.proofs.lemmas.List.Sums.{count_by-le-length}
 use Rattle.qccd_base.specs.declared.names.Res.{Res}
 use Rattle.qccd_base.specs.Names.{trap, segment, junction, bit}
 use Rattle.qccd_base.specs.Resource.{among, same_res, comes_before}
-use Rattle.qccd_machine.specs.Machine.{MachineData}
+use Rattle.qccd_machine.specs.Machine.{MachineData, IsValid}
 use Rattle.op_table.specs.declared.kinds.OpKind.{OpKind}
 use Rattle.op_table.specs.Touch.{touches, named, nth, total}
 use Rattle.claim_core.specs.Faithful.{one_of}
-use Rattle.op_cells.specs.Numbering.{index_of, IsThere}
-use Rattle.claim_core.specs.Turns.{HasTurns, Counts, counted, found, up_one}
+use Rattle.op_cells.specs.Numbering.{count_of, index_of, IsThere}
+use Rattle.claim_core.specs.Turns.{HasTurns, Counts, counted, counted_up, found, up_one}
 use Rattle.std.specs.List.{AllByRecursion}
 use Rattle.op_table.proofs.Neighbours.{own_among, same_res_is}
 use Rattle.claim_core.proofs.Rising.{Rising, rising-ascending, differs}
@@ -45,36 +45,68 @@ index-same m n (res.Bit t) (res.Seg u) a b e = absurd (omega (arith, a, b, e))
 index-same m n (res.Bit t) (res.Junc u) a b e = absurd (omega (arith, a, b, e))
 index-same m n (res.Bit t) (res.Bit u) a b e = let is : t.0 ≡ u.0 = omega (arith, e) in eq-eqb t.0 u.0 is
 
-pub index-within : (m : MachineData) (n : ℕ) (r : Res) → IsThere m n r → index_of m r < length m.capacities + length m.segments + m.junctions + n
+pub index-within : (m : MachineData) (n : ℕ) (r : Res) → IsThere m n r → index_of m r < count_of m n
 index-within m n (res.Trap t) a = omega (arith, a)
 index-within m n (res.Seg t) a = omega (arith, a)
 index-within m n (res.Junc t) a = omega (arith, a)
 index-within m n (res.Bit t) a = omega (arith, a)
+
+-- numbers ascend with their resources
+index_rises : (m : MachineData) (n : ℕ) (q r : Res) → IsThere m n q → IsThere m n r → comes_before q r ≡ true → index_of m q < index_of m r
+index_rises m n (res.Trap t) (res.Trap u) a b h = ltb-true t.0 u.0 h
+index_rises m n (res.Trap t) (res.Seg u) a b h = omega (arith, a)
+index_rises m n (res.Trap t) (res.Junc u) a b h = omega (arith, a)
+index_rises m n (res.Trap t) (res.Bit u) a b h = omega (arith, a)
+index_rises m n (res.Seg t) (res.Trap u) a b h = absurd (false≢true h)
+index_rises m n (res.Seg t) (res.Seg u) a b h = let less : t.0 < u.0 = ltb-true t.0 u.0 h in omega (arith, less)
+index_rises m n (res.Seg t) (res.Junc u) a b h = omega (arith, a)
+index_rises m n (res.Seg t) (res.Bit u) a b h = omega (arith, a)
+index_rises m n (res.Junc t) (res.Trap u) a b h = absurd (false≢true h)
+index_rises m n (res.Junc t) (res.Seg u) a b h = absurd (false≢true h)
+index_rises m n (res.Junc t) (res.Junc u) a b h = let less : t.0 < u.0 = ltb-true t.0 u.0 h in omega (arith, less)
+index_rises m n (res.Junc t) (res.Bit u) a b h = omega (arith, a)
+index_rises m n (res.Bit t) (res.Trap u) a b h = absurd (false≢true h)
+index_rises m n (res.Bit t) (res.Seg u) a b h = absurd (false≢true h)
+index_rises m n (res.Bit t) (res.Junc u) a b h = absurd (false≢true h)
+index_rises m n (res.Bit t) (res.Bit u) a b h = let less : t.0 < u.0 = ltb-true t.0 u.0 h in omega (arith, less)
+
+-- so there are no more of them than there are resources
+rising_fits : (m : MachineData) (n : ℕ) (q : Res) (qs : List Res) → Rising (q ∷ qs) → AllByRecursion (IsThere m n) (q ∷ qs) → index_of m q + length (q ∷ qs) ≤ count_of m n
+rising_fits m n q [] up there = omega (arith, index-within m n q there.0)
+rising_fits m n q (r ∷ rs) up there = omega (arith, index_rises m n q r there.0 there.1.0 up.0.0, rising_fits m n r rs up.1 there.1)
+
+rising_few : (m : MachineData) (n : ℕ) (rs : List Res) → Rising rs → AllByRecursion (IsThere m n) rs → length rs ≤ count_of m n
+rising_few m n [] up there = omega arith
+rising_few m n (r ∷ rs) up there = omega (arith, rising_fits m n r rs up there)
+
+found_long : (m : MachineData) (cs : List ℕ) (rs : List Res) → length (found m cs rs) ≡ length rs
+found_long m cs [] = refl
+found_long m cs (r ∷ rs) = ap suc (found_long m (counted_up m cs r) rs)
 
 -- one more at each of these
 abbrev pub plus : (Res → ℕ) → List Res → Res → ℕ
 plus turn rs r = turn r + cond (among rs r) 1 0
 
 pub set_counts : (m : MachineData) (n : ℕ) (turn : Res → ℕ) (cs : List ℕ) (q : Res) → Counts m n turn cs → IsThere m n q → turn q < 4194304
-    → Counts m n (λ r. turn r + cond (same_res q r) 1 0) (set cs (index_of m q) (up_one (get_or cs (index_of m q) 0)))
+    → Counts m n (λ r. turn r + cond (same_res q r) 1 0) (counted_up m cs q)
 set_counts m n turn cs q is there low = record {
   long = length-set cs (index_of m q) (up_one (get_or cs (index_of m q) 0)) ∙ is.long;
   each = λ r at.
-    let within : index_of m q < length cs = omega (arith, is.long, index-within m n q there) in
-    let old : get_or cs (index_of m q) 0 ≡ turn q = get_or_from_slice_get cs (index_of m q) (turn q) 0 (is.each q there) in
-    let new : up_one (get_or cs (index_of m q) 0) ≡ turn q + 1 = omega (arith, old, low) in
-    set-get cs (index_of m q) (index_of m r) (up_one (get_or cs (index_of m q) 0)) within
-    ∙ elim (cases_eq (index_of m r) (index_of m q)) [
-      | inl h ↦
-          let one : same_res q r ≡ true = index-same m n q r there at (sym h) in
-          let same : q ≡ r = same_res_is q r one in
-          ap (λ (b : Bool). if b then Some (up_one (get_or cs (index_of m q) 0)) else slice_get cs (index_of m r)) (eq-eqb (index_of m r) (index_of m q) h)
-          ∙ ap Some (new ∙ ap₂ (λ (x : Res) (b : Bool). turn x + cond b 1 0) same (sym one))
-      | inr h ↦
-          let none : same_res q r ≡ false = Rattle.std.proofs.lemmas.Bool.false_from_ne_true (same_res q r) (λ k. h (ap (index_of m) (sym (same_res_is q r k)))) in
-          ap (λ (b : Bool). if b then Some (up_one (get_or cs (index_of m q) 0)) else slice_get cs (index_of m r)) (ne_eqb (index_of m r) (index_of m q) h)
-          ∙ is.each r at ∙ ap Some (add_none (turn r) ∙ ap (λ (b : Bool). turn r + cond b 1 0) (sym none))
-    ];
+      let within : index_of m q < length cs = omega (arith, is.long, index-within m n q there) in
+      let old : get_or cs (index_of m q) 0 ≡ turn q = get_or_from_slice_get cs (index_of m q) (turn q) 0 (is.each q there) in
+      let new : up_one (get_or cs (index_of m q) 0) ≡ turn q + 1 = omega (arith, old, low) in
+      set-get cs (index_of m q) (index_of m r) (up_one (get_or cs (index_of m q) 0)) within
+      ∙ elim (cases_eq (index_of m r) (index_of m q)) [
+        | inl h ↦
+            let one : same_res q r ≡ true = index-same m n q r there at (sym h) in
+            let same : q ≡ r = same_res_is q r one in
+            ap (λ (b : Bool). if b then Some (up_one (get_or cs (index_of m q) 0)) else slice_get cs (index_of m r)) (eq-eqb (index_of m r) (index_of m q) h)
+            ∙ ap Some (new ∙ ap₂ (λ (x : Res) (b : Bool). turn x + cond b 1 0) same (sym one))
+        | inr h ↦
+            let none : same_res q r ≡ false = Rattle.std.proofs.lemmas.Bool.false_from_ne_true (same_res q r) (λ k. h (ap (index_of m) (sym (same_res_is q r k)))) in
+            ap (λ (b : Bool). if b then Some (up_one (get_or cs (index_of m q) 0)) else slice_get cs (index_of m r)) (ne_eqb (index_of m r) (index_of m q) h)
+            ∙ is.each r at ∙ ap Some (add_none (turn r) ∙ ap (λ (b : Bool). turn r + cond b 1 0) (sym none))
+      ];
 }
   where
     add_none : (n : ℕ) → n ≡ n + 0
@@ -87,6 +119,7 @@ each_apart q (x ∷ rs) up = both (same_res x q) (among rs q) (turned_res x q (d
     both : (a b : Bool) → a ≡ false → b ≡ false → Rattle.std.proofs.Common.◌||◌ a b ≡ false
     both true b h k = h
     both false b h k = k
+
     turned_res : (x q : Res) → same_res q x ≡ false → same_res x q ≡ false
     turned_res x q h = Rattle.std.proofs.lemmas.Bool.false_from_ne_true (same_res x q) (λ k. let is : x ≡ q = same_res_is x q k in false≢true (sym h ∙ ap (λ (y : Res). same_res q y) is ∙ Rattle.claim_core.proofs.Worlds.same_own q))
 
@@ -101,13 +134,15 @@ counts_all m n turn cs (q ∷ rs) is up there low =
     let next : Res → ℕ = λ r. turn r + cond (same_res q r) 1 0 in
     let apart : (r : Res) → among rs r ≡ true → same_res q r ≡ false = λ r at. Rattle.std.proofs.lemmas.Bool.false_from_ne_true (same_res q r) (λ k. let is : q ≡ r = same_res_is q r k in false≢true (sym (each_apart q rs up.0) ∙ ap (among rs) is ∙ at)) in
     let same : (r : Res) → among rs r ≡ true → next r ≡ turn r = λ r at. ap (λ (b : Bool). turn r + cond b 1 0) (apart r at) ∙ add_none (turn r) in
-    let rest = counts_all m n next (set cs (index_of m q) (up_one (get_or cs (index_of m q) 0))) rs (set_counts m n turn cs q is there.0 (low q (own_among q rs))) up.1 there.1
-        (λ r at. let e : next r ≡ turn r = same r at in let l : turn r < 4194304 = low r (Rattle.std.proofs.lemmas.Bool.or_right (same_res q r) (among rs r) at) in omega (arith, e, l)) in
-    (counts_alike m n (plus next rs) (plus turn (q ∷ rs)) (counted m cs (q ∷ rs)) (λ r. joined (same_res q r) (among rs r) (turn r) (λ at. apart r at)) rest.0,
-      ap₂ (λ (x : ℕ) (xs : List ℕ). x ∷ xs) (get_or_from_slice_get cs (index_of m q) (turn q) 0 (is.each q there.0)) (rest.1 ∙ Rattle.claim_core.proofs.MeetsCells.maps_touched rs next turn same))
+    let rest = counts_all m n next (counted_up m cs q) rs (set_counts m n turn cs q is there.0 (low q (own_among q rs))) up.1 there.1
+    (λ r at. let e : next r ≡ turn r = same r at in let l : turn r < 4194304 = low r (Rattle.std.proofs.lemmas.Bool.or_right (same_res q r) (among rs r) at) in omega (arith, e, l)) in (
+      counts_alike m n (plus next rs) (plus turn (q ∷ rs)) (counted m cs (q ∷ rs)) (λ r. joined (same_res q r) (among rs r) (turn r) (λ at. apart r at)) rest.0,
+      ap₂ (λ (x : ℕ) (xs : List ℕ). x ∷ xs) (get_or_from_slice_get cs (index_of m q) (turn q) 0 (is.each q there.0)) (rest.1 ∙ Rattle.claim_core.proofs.MeetsCells.maps_touched rs next turn same),
+    )
   where
     add_none : (n : ℕ) → n + 0 ≡ n
     add_none n = omega arith
+
     joined : (a b : Bool) (t : ℕ) → (b ≡ true → a ≡ false) → t + cond a 1 0 + cond b 1 0 ≡ t + cond (Rattle.std.proofs.Common.◌||◌ a b) 1 0
     joined true true t h = absurd (false≢true (sym (h refl)))
     joined true false t h = omega arith
@@ -149,29 +184,33 @@ pub table-next : (m : MachineData) (n : ℕ) (ops : List OpKind) (k : ℕ) (op :
     → HasTurns ops (k + 1) (starts ++ length turns ∷ []) (turns ++ found m cs (touches op)) × Counts m n (nth ops (k + 1)) (counted m cs (touches op))
 table-next m n ops k op cs starts turns is few there has counts =
     let all = counts_all m n (nth ops k) cs (touches op) counts (rising-ascending (named op)) (each_of (IsThere m n) (touches op) there) (λ r at. omega (arith, nth-le ops k r, few)) in
-    let one : suc k ≡ k + 1 = omega arith in
-    (record {
-      long = omega (arith, length-append starts (length turns ∷ []), has.long);
-      at = λ j i o r less here within. elim (cases_lt j k) [
-        | inl before ↦ let x = has.at j i o r before here within in (x.0, get_front starts (length turns ∷ []) j x.0 x.1, get_front turns (found m cs (touches op)) (x.0 + i) (nth ops j r) x.2)
-        | inr past ↦
-            let same : j ≡ k = omega (arith, less, past) in
-            let own : o ≡ op = same_Some o op (sym here ∙ ap (slice_get ops) same ∙ is) in
-            (length turns, ap (slice_get (starts ++ length turns ∷ [])) same ∙ get_last starts (length turns) k has.long,
-              get_back turns (found m cs (touches op)) i ∙ ap (λ (xs : List ℕ). slice_get xs i) all.1 ∙ get_mapped (nth ops k) (touches op) i r (ap (λ (x : OpKind). slice_get (touches x) i) (sym own) ∙ within)
-              ∙ ap (λ (y : ℕ). Some (nth ops y r)) (sym same))
-      ];
-    },
-      counts_alike m n (plus (nth ops k) (touches op)) (nth ops (k + 1)) (counted m cs (touches op)) (λ r. sym (nth-own ops k op r is) ∙ ap (λ (y : ℕ). nth ops y r) one) all.0)
+    let one : suc k ≡ k + 1 = omega arith in (
+      record {
+        long = omega (arith, length-append starts (length turns ∷ []), has.long);
+        at = λ j i o r less here within. elim (cases_lt j k) [
+          | inl before ↦ let x = has.at j i o r before here within in (x.0, get_front starts (length turns ∷ []) j x.0 x.1, get_front turns (found m cs (touches op)) (x.0 + i) (nth ops j r) x.2)
+          | inr past ↦
+              let same : j ≡ k = omega (arith, less, past) in
+              let own : o ≡ op = same_Some o op (sym here ∙ ap (slice_get ops) same ∙ is) in (
+                length turns,
+                ap (slice_get (starts ++ length turns ∷ [])) same ∙ get_last starts (length turns) k has.long,
+                get_back turns (found m cs (touches op)) i ∙ ap (λ (xs : List ℕ). slice_get xs i) all.1 ∙ get_mapped (nth ops k) (touches op) i r (ap (λ (x : OpKind). slice_get (touches x) i) (sym own) ∙ within)
+                    ∙ ap (λ (y : ℕ). Some (nth ops y r)) (sym same),
+              )
+        ];
+      },
+      counts_alike m n (plus (nth ops k) (touches op)) (nth ops (k + 1)) (counted m cs (touches op)) (λ r. sym (nth-own ops k op r is) ∙ ap (λ (y : ℕ). nth ops y r) one) all.0,
+    )
 
 -- ---- what the builder's loop needs
 
-pub counts-start : (m : MachineData) (n : ℕ) (ops : List OpKind) (cs : List ℕ) → cs ≡ Rattle.std.specs.Prelude.replicate (length m.capacities + length m.segments + m.junctions + n) 0 → Counts m n (nth ops 0) cs
-counts-start m n ops cs is = subst (Counts m n (nth ops 0)) (sym is) (record { long = zeros (length m.capacities + length m.segments + m.junctions + n); each = λ r at. zero_at (length m.capacities + length m.segments + m.junctions + n) (index_of m r) (index-within m n r at) })
+pub counts-start : (m : MachineData) (n : ℕ) (ops : List OpKind) (cs : List ℕ) → cs ≡ Rattle.std.specs.Prelude.replicate (count_of m n) 0 → Counts m n (nth ops 0) cs
+counts-start m n ops cs is = subst (Counts m n (nth ops 0)) (sym is) (record { long = zeros (count_of m n); each = λ r at. zero_at (count_of m n) (index_of m r) (index-within m n r at) })
   where
     zeros : (n : ℕ) → length {A = ℕ} (Rattle.std.specs.Prelude.replicate n 0) ≡ n
     zeros zero = refl
     zeros (suc n) = ap suc (zeros n)
+
     zero_at : (n i : ℕ) → i < n → slice_get {X = ℕ} (Rattle.std.specs.Prelude.replicate n 0) i ≡ Some 0
     zero_at zero i h = absurd (omega arith)
     zero_at (suc n) zero h = refl
@@ -180,7 +219,7 @@ counts-start m n ops cs is = subst (Counts m n (nth ops 0)) (sym is) (record { l
 pub no-turns : (ops : List OpKind) → HasTurns ops 0 [] []
 no-turns ops = record { long = refl; at = λ k i op r less. absurd (omega arith) }
 
-pub all_there : (m : MachineData) (n : ℕ) (cs : List ℕ) (rs : List Res) → length cs ≡ length m.capacities + length m.segments + m.junctions + n → ((r : Res) → among rs r ≡ true → IsThere m n r) → All (λ r. index_of m r < length cs) rs
+pub all_there : (m : MachineData) (n : ℕ) (cs : List ℕ) (rs : List Res) → length cs ≡ count_of m n → ((r : Res) → among rs r ≡ true → IsThere m n r) → All (λ r. index_of m r < length cs) rs
 all_there m n cs rs long there = Rattle.std.proofs.lemmas.List.Elements.All-from_recursion (λ r. index_of m r < length cs) rs (go rs there)
   where
     go : (rs : List Res) → ((r : Res) → among rs r ≡ true → IsThere m n r) → Rattle.std.specs.List.AllByRecursion (λ r. index_of m r < length cs) rs
@@ -194,6 +233,15 @@ pub may-count : (m : MachineData) (n : ℕ) (ops : List OpKind) (k : ℕ) (op : 
     → Counts m n (nth ops k) cs → All (λ r. index_of m r < length cs) rs
 may-count m n ops k op cs rs same there is less counts = all_there m n cs rs counts.long (λ r at. there k op r (read-of ops k op is less) (ap (λ (xs : List Res). among xs r) (sym same) ∙ at))
 
+-- the flat list stays so short that its places have 32 bits
+pub turns-few : (m : MachineData) (n : ℕ) (ops : List OpKind) (k : ℕ) (op : OpKind) (cs turns now : List ℕ) (rs : List Res) → count_of m n ≤ 480 → ((j : ℕ) (o : OpKind) (r : Res) → slice_get ops j ≡ Some o → among (touches o) r ≡ true → IsThere m n r) → op ≡ get_or ops k op → k < length ops
+    → rs ≡ touches op → now ≡ turns ++ found m cs rs → length turns ≤ 480 * k → length now ≤ 480 * (k + 1)
+turns-few m n ops k op cs turns now rs few there is less same e short =
+    let fits : length (touches op) ≤ count_of m n = rising_few m n (touches op) (rising-ascending (named op)) (each_of (IsThere m n) (touches op) (λ r at. there k op r (read-of ops k op is less) at)) in
+    let long : length rs ≡ length (touches op) = ap (λ (xs : List Res). length xs) same in
+    let all : length now ≡ length turns + length rs = ap (λ (xs : List ℕ). length xs) e ∙ length-append turns (found m cs rs) ∙ ap (λ (n : ℕ). length turns + n) (found_long m cs rs) in
+    omega (arith, all, long, fits, few, short)
+
 pub counted-next : (m : MachineData) (n : ℕ) (ops : List OpKind) (k : ℕ) (op : OpKind) (cs starts turns : List ℕ) (rs : List Res) (now_cs now_starts now_turns : List ℕ) → length ops ≤ 4194304
     → ((j : ℕ) (o : OpKind) (r : Res) → slice_get ops j ≡ Some o → among (touches o) r ≡ true → IsThere m n r) → op ≡ get_or ops k op → k < length ops
     → HasTurns ops k starts turns → Counts m n (nth ops k) cs → rs ≡ touches op
@@ -201,6 +249,7 @@ pub counted-next : (m : MachineData) (n : ℕ) (ops : List OpKind) (k : ℕ) (op
     → HasTurns ops (k + 1) now_starts now_turns × Counts m n (nth ops (k + 1)) now_cs
 counted-next m n ops k op cs starts turns rs now_cs now_starts now_turns few there is less has counts same e f g =
     let at : slice_get ops k ≡ Some op = read-of ops k op is less in
-    let next = table-next m n ops k op cs starts turns at (omega (arith, less, few)) (λ r in_op. there k op r at in_op) has counts in
-    (subst (λ (ss : List ℕ). HasTurns ops (k + 1) ss now_turns) (sym e) (subst (HasTurns ops (k + 1) (starts ++ length turns ∷ [])) (sym (f ∙ ap (λ (xs : List Res). turns ++ found m cs xs) same)) next.0),
-      subst (Counts m n (nth ops (k + 1))) (sym (g ∙ ap (counted m cs) same)) next.1)
+    let next = table-next m n ops k op cs starts turns at (omega (arith, less, few)) (λ r in_op. there k op r at in_op) has counts in (
+      subst (λ (ss : List ℕ). HasTurns ops (k + 1) ss now_turns) (sym e) (subst (HasTurns ops (k + 1) (starts ++ length turns ∷ [])) (sym (f ∙ ap (λ (xs : List Res). turns ++ found m cs xs) same)) next.0),
+      subst (Counts m n (nth ops (k + 1))) (sym (g ∙ ap (counted m cs) same)) next.1,
+    )

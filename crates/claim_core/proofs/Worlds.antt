@@ -54,9 +54,9 @@ cell-others m w op r out =
 greatest_has : (f : Res → ℕ) (rs : List Res) (r : Res) → among rs r ≡ true → f r ≤ greatest (map f rs)
 greatest_has f [] r at = absurd (false≢true at)
 greatest_has f (q ∷ rs) r at = elim (or_cases (same_res q r) (among rs r) at) [
-    | inl h ↦ let is : q ≡ r = same_res_is q r h in subst (λ (x : Res). f x ≤ greatest (map f (q ∷ rs))) is (omega arith)
-    | inr h ↦ let rest : f r ≤ greatest (map f rs) = greatest_has f rs r h in omega arith
-  ]
+  | inl h ↦ let is : q ≡ r = same_res_is q r h in subst (λ (x : Res). f x ≤ greatest (map f (q ∷ rs))) is (omega arith)
+  | inr h ↦ let rest : f r ≤ greatest (map f rs) = greatest_has f rs r h in omega arith
+]
 
 no_less : (n k : ℕ) → k ≤ n → max n k ≡ n
 no_less n k h = omega arith
@@ -104,17 +104,18 @@ rest_cells m w op (r ∷ us) all =
 
 each_touched : (op : OpKind) (q : Res) (qs : List Res) (us : List Res) → touches op ≡ q ∷ qs → AllByRecursion (λ x. comes_before q x ≡ true) us → ((r : Res) → among us r ≡ true → among qs r ≡ true) → AllByRecursion (λ r. (among (touches op) r ≡ true) × (is_first op r ≡ false)) us
 each_touched op q qs [] is up inside = tt
-each_touched op q qs (r ∷ us) is up inside =
-    ((ap (λ (ts : List Res). among ts r) is ∙ or_right (same_res q r) (among qs r) (inside r (own_among r us)), ap (λ (ts : List Res). is_head ts r) is ∙ differs q r up.0),
-      each_touched op q qs us is up.1 (λ x h. inside x (or_right (same_res r x) (among us x) h)))
+each_touched op q qs (r ∷ us) is up inside = (
+  (ap (λ (ts : List Res). among ts r) is ∙ or_right (same_res q r) (among qs r) (inside r (own_among r us)), ap (λ (ts : List Res). is_head ts r) is ∙ differs q r up.0),
+  each_touched op q qs us is up.1 (λ x h. inside x (or_right (same_res r x) (among us x) h)),
+)
 
 pub same_own : (q : Res) → same_res q q ≡ true
 same_own q = Rattle.std.proofs.lemmas.Bool.and_from (rank_of q == rank_of q) (number_of q == number_of q) (Rattle.std.proofs.lemmas.Bool.eq-eqb (rank_of q) (rank_of q) refl) (Rattle.std.proofs.lemmas.Bool.eq-eqb (number_of q) (number_of q) refl)
 
 all_cells : (m : MachineData) (w : World) (op : OpKind) (ts : List Res) → touches op ≡ ts → Rising ts
     → map (cell_in (world_after m w op)) ts
-        ≡ noted_at (record { op = length w.earlier; start = (timed_after m w.earlier op).start; finish = (timed_after m w.earlier op).finish })
-            (with_contents_at (timed_after m w.earlier op).finish (map (content (effect m w.state op)) ts) (map (cell_in w) ts))
+    ≡ noted_at (record { op = length w.earlier; start = (timed_after m w.earlier op).start; finish = (timed_after m w.earlier op).finish })
+    (with_contents_at (timed_after m w.earlier op).finish (map (content (effect m w.state op)) ts) (map (cell_in w) ts))
 all_cells m w op [] is up = refl
 all_cells m w op (q ∷ qs) is up =
     let now : Timed = timed_after m w.earlier op in
@@ -123,7 +124,7 @@ all_cells m w op (q ∷ qs) is up =
     let log : log_of (now ∷ w.earlier) q ≡ log_of w.earlier q ++ record { op = length w.earlier; start = now.start; finish = now.finish } ∷ [] =
     ap (λ (b : Bool). if b then log_of w.earlier q ++ record { op = length w.earlier; start = now.start; finish = now.finish } ∷ [] else log_of w.earlier q) first in
     ap₂ (λ (d : CellData) (ds : List CellData). d ∷ ds) (λ i. record { content = content (effect m w.state op) q; clock = clock i; log = log i })
-        (rest_cells m w op qs (each_touched op q qs qs is up.0 (λ r h. h)))
+    (rest_cells m w op qs (each_touched op q qs qs is up.0 (λ r h. h)))
 
 -- what a legal operation leaves in the cells that it touches
 pub cells-acted : (m : MachineData) (w : World) (op : OpKind) → IsSafe m w.state → IsOp op → why m w.state op ≡ None → Clocked m w.earlier

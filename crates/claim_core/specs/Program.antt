@@ -14,6 +14,10 @@ pub record ProgramData : Type 0 where
   pub start : List (List Ion)
   pub ops : List OpKind
 
+abbrev pub program_data : MachineData → ℕ → ℕ → List (List Ion) → List OpKind → ProgramData
+program_data machine qubits bits start ops =
+    record { machine = machine; qubits = qubits; bits = bits; start = start; ops = ops }
+
 -- the state of the start chains
 abbrev pub opening_of : ProgramData → State
 opening_of p = opening p.qubits p.bits p.start

@@ -1,5 +1,10 @@
-//! Transport programs: operations on a machine from its start chains, and when they implement a
-//! circuit. The definitions stand in `specs/`.
+//! Transport programs: operations on a machine from its start chains, the cells of their run, and when
+//! they implement a circuit.
 #![tactic(auto)]
 
+mod first_cells;
 pub mod laws;
+mod program;
+mod turn_table;
+
+pub use program::Program;

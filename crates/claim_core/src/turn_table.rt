@@ -1,0 +1,89 @@
+//! How many earlier operations touch each resource that an operation touches.
+
+ghost use Rattle.std.specs.Prelude.{◌≡◌, ◌<◌, ◌≤◌, ◌+◌, ◌++◌, ℕ, true, All, IfOk, OnOk, Some, length, slice_get};
+ghost use Rattle.qccd_base.specs.declared.names.Res.{Res};
+ghost use Rattle.qccd_base.specs.Resource.{among};
+ghost use Rattle.op_table.specs.declared.kinds.OpKind.{OpKind};
+ghost use Rattle.op_table.specs.Touch.{touches};
+ghost use Rattle.op_cells.specs.Numbering.{count_of, index_of, IsThere};
+ghost use Rattle.claim_core.specs.Turns.{HasTurns, counted, found};
+
+use op_table::Op;
+use qccd_base::{NoMemory, Res};
+use qccd_machine::Machine;
+use std::alloc::Global;
+
+/// The turns of all operations in one list, and where those of each operation begin in it.
+#[derive(Debug, Drop)]
+pub(crate) struct TurnTable {
+    pub(crate) starts: Vec<u32>,
+    pub(crate) turns: Vec<u32>,
+}
+
+/// How many resources there are: a machine has no more than 224 besides the bits.
+pub(crate) fn count_of(machine: &Machine, bits: u16) -> usize
+    ensures count { result ≡ count_of machine.now bits }
+    ensures few { result ≤ 224 + bits }
+{
+    usize::from(machine.traps())
+        + usize::from(machine.segments())
+        + usize::from(machine.junctions())
+        + usize::from(bits)
+}
+
+/// The number of a resource among all.
+pub(crate) fn index_of(machine: &Machine, r: Res) -> usize
+    ensures { result ≡ index_of machine.now r }
+{
+    let traps = usize::from(machine.traps());
+    let segments = usize::from(machine.segments());
+    let junctions = usize::from(machine.junctions());
+    match r {
+        Res::Trap(t) => usize::from(t.0),
+        Res::Seg(g) => traps + usize::from(g.0),
+        Res::Junc(j) => traps + segments + usize::from(j.0),
+        Res::Bit(b) => traps + segments + junctions + usize::from(b.0),
+    }
+}
+
+// Notes the counter of each resource, and counts it.
+fn count(
+    machine: &Machine,
+    touched: &[Res],
+    counters: &mut Vec<u32>,
+    turns: &mut Vec<u32>,
+) -> Result<(), NoMemory>
+    requires there { All (λ r. index_of machine.now r < length counters.old.items) touched.now }
+    ensures turns { OnOk result (turns.new.items ≡ turns.old.items ++ found machine.now counters.old.items touched.now) }
+    ensures counters { OnOk result (counters.new.items ≡ counted machine.now counters.old.items touched.now) }
+{
+    for r in touched {
+        let i = index_of(machine, *r);
+        turns.push(counters[i])?;
+        counters[i] = counters[i].wrapping_add(1);
+    }
+    Ok(())
+}
+
+/// The turns of these operations, counted in one pass.
+pub(crate) fn turn_table(
+    alloc: Global,
+    machine: &Machine,
+    bits: u16,
+    ops: &[Op],
+) -> Result<TurnTable, NoMemory>
+    requires bits { bits ≤ 256 }
+    requires few { length ops.now ≤ 4194304 }
+    requires there { (k : ℕ) (op : OpKind) (r : Res) → slice_get ops.now k ≡ Some op → among (touches op) r ≡ true → IsThere machine.now bits r }
+    ensures { IfOk result (λ t. HasTurns ops.now (length ops.now) t.starts.items t.turns.items) }
+{
+    let mut counters = vec![in alloc; 0u32; count_of(machine, bits)]?;
+    let mut starts = Vec::with_capacity(alloc, ops.len())?;
+    // Most operations touch one resource or two.
+    let mut turns = Vec::with_capacity(alloc, 2 * ops.len())?;
+    for op in ops {
+        starts.push(turns.as_slice().len() as u32)?;
+        count(machine, op.touches(), &mut counters, &mut turns)?;
+    }
+    Ok(TurnTable { starts, turns })
+}
