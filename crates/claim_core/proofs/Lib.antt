@@ -1,4 +1,5 @@
 pub mod Clocks
+pub mod Examples
 pub mod Faithfully
 pub mod FirstCells
 pub mod Meets

@@ -1,5 +1,6 @@
 pub mod AllCells
 pub mod CellOfRun
+pub mod Example
 pub mod Faithful
 pub mod First
 pub mod Implements

@@ -6,5 +6,6 @@ mod first_cells;
 pub mod laws;
 mod program;
 mod turn_table;
+pub mod worked;
 
 pub use program::Program;
