@@ -1,16 +1,24 @@
 -- The program of the example is legal.
-use Rattle.std.proofs.lemmas.Bool.{ne_eqb, le-ltb}
-use Rattle.std.proofs.Common.{◌≡◌, ◌≢◌, ◌≤◌, ◌<◌, Bool, true, false, cond, not, ◌||◌, ◌&&◌, if◌then◌else◌, nat_lt, get_or, ℕ, zero, suc, List, [], ◌∷◌, length, refl, ap, arith, Option, Some, None}
-use Rattle.std.specs.Prelude.{codes, count_by, flat_map, ◌==◌}
+use Rattle.std.proofs.lemmas.Bool.{ne_eqb, le-ltb, lt-ltb}
+use Rattle.std.proofs.Common.{◌≡◌, ◌≢◌, ◌≤◌, ◌<◌, Bool, true, false, cond, not, ◌||◌, ◌&&◌, if◌then◌else◌, nat_lt, get_or, ℕ, zero, suc, List, [], ◌∷◌, length, refl, ap, arith, ◌∙◌}
+use Rattle.std.specs.Prelude.{codes, count_by, flat_map, replicate, ◌==◌, ◌++◌, ◌+◌}
 use Rattle.std.specs.List.{AllByRecursion}
 use Rattle.qccd_circuit.specs.Item.{Fits, IsGateName, ItemData}
 use Rattle.qccd_circuit.specs.Example.{cx_on}
+use Rattle.qccd_base.specs.FirstFailing.{first_failing}
+use Rattle.op_table.specs.declared.kinds.OpKind.{OpKind}
+use Rattle.op_table.specs.declared.kinds.Why.TheVariants.{NoPlace, Position}
+use Rattle.op_table.specs.State.{State, Stand, ions_in, is_in_trap}
+use Rattle.op_table.specs.Step.{effect, swapped}
+use Rattle.op_table.proofs.Counts.{count_by-map}
 use Rattle.op_table.specs.Op.{IsOp, KeepsItemRule}
 use Rattle.op_table.specs.Run.{IsRun, items_in}
 use Rattle.op_table.specs.Start.{IsStart}
 use Rattle.op_table.specs.Example.{pair}
-use Rattle.claim_core.specs.Example.{x_on, start_chains, eight_ops, two_gates_and_one}
-use Rattle.claim_core.specs.Program.{opening_of}
+use Rattle.claim_core.specs.Example.{x_on, start_chains, eight_ops, two_gates_and_one, exchange, exchanges}
+use Rattle.qccd_base.specs.declared.names.Ion.{Ion}
+use Rattle.qccd_machine.specs.Machine.{MachineData}
+use Rattle.claim_core.specs.Program.{program_data, opening_of}
 use Rattle.claim_core.specs.Legal.{IsLegalProgram}
 
 -- a number past these is none of them
@@ -81,3 +89,47 @@ example-legal = record {
   run = (refl, (refl, (refl, (refl, (refl, (refl, (refl, (refl, tt))))))));
   once = once_each;
 }
+
+exchange_run : (s : State) (n : ℕ) → 2 ≤ ions_in s 0 → IsRun pair s (replicate n exchange)
+exchange_run s zero two = tt
+exchange_run s (suc n) two =
+    let both : nat_lt 1 (ions_in s 0) ≡ true = lt-ltb 1 (ions_in s 0) (omega (arith, two)) in
+    let same : ions_in (effect pair s exchange) 0 ≡ ions_in s 0 = count_by-map (λ (w : Stand). is_in_trap 0 w.place) (λ (w : Stand). record w { qubit = swapped s 0 0 1 w }) s.ions in
+    (ap (λ (b : Bool). first_failing ((NoPlace, true) ∷ (Position, b) ∷ [])) both, exchange_run (effect pair s exchange) n (omega (arith, same, two)))
+
+all_replicated : (P : OpKind → Type 0) (n : ℕ) → P exchange → AllByRecursion P (replicate n exchange)
+all_replicated P zero p = tt
+all_replicated P (suc n) p = (p, all_replicated P n p)
+
+no_items : (n : ℕ) → items_in (replicate n exchange) ≡ []
+no_items zero = refl
+no_items (suc n) = no_items n
+
+length_replicated : (n : ℕ) → length (replicate n exchange) ≡ n
+length_replicated zero = refl
+length_replicated (suc n) = ap suc (length_replicated n)
+
+pub exchanges-legal : (n : ℕ) → n ≤ 4194304 → IsLegalProgram (exchanges n)
+exchanges-legal n few = record {
+  qubits = omega arith;
+  bits = omega arith;
+  few = omega (arith, few, length_replicated n);
+  start = starts_so;
+  ops = all_replicated IsOp n (omega arith);
+  items_fit = all_replicated KeepsItemRule n tt;
+  run = exchange_run (opening_of two_gates_and_one) n (omega arith);
+  once = λ number. let none = ap (λ (es : List (ℕ × ItemData)). count_by (λ (e : ℕ × ItemData). e.0 == number) es) (no_items n) in omega (arith, none);
+}
+
+pub replicated-next : (ops : List OpKind) (n : ℕ) → ops ≡ replicate n exchange → ops ++ exchange ∷ [] ≡ replicate (n + 1) exchange
+replicated-next ops n is = ap (λ (os : List OpKind). os ++ exchange ∷ []) is ∙ one_more n ∙ ap (λ (k : ℕ). replicate k exchange) (one n)
+  where
+    one : (n : ℕ) → suc n ≡ n + 1
+    one n = omega arith
+
+    one_more : (n : ℕ) → replicate n exchange ++ exchange ∷ [] ≡ replicate (suc n) exchange
+    one_more zero = refl
+    one_more (suc n) = ap (λ (os : List OpKind). exchange ∷ os) (one_more n)
+
+pub exchanges-read : (m : MachineData) (start : List (List Ion)) (ops : List OpKind) (n k : ℕ) → m ≡ pair → start ≡ start_chains → ops ≡ replicate k exchange → k ≡ n → program_data m 4 0 start ops ≡ exchanges n
+exchanges-read m start ops n k machine chains made all = λ i. program_data (machine i) 4 0 (chains i) ((made ∙ ap (λ (j : ℕ). replicate j exchange) all) i)

@@ -1,34 +1,33 @@
 -- The contents of the opening, and the room that logs need.
-use Rattle.std.proofs.Common.{◌≡◌, ◌≢◌, ℕ, zero, suc, ◌+◌, ◌<◌, ◌≤◌, inl, inr, Bool, true, false, cond, ◌==◌, if◌then◌else◌, List, [], ◌∷◌, ◌++◌, map, length, take, get_or, refl, sym, ◌∙◌, ap, ap₂, subst, arith, Option, Some, None, All, option_map, length-append, eqb}
+use Rattle.std.proofs.Common.{◌≡◌, ℕ, zero, suc, ◌+◌, ◌<◌, ◌≤◌, inl, inr, Bool, true, false, cond, List, [], ◌∷◌, ◌++◌, map, length, take, get_or, refl, sym, ◌∙◌, ap, ap₂, subst, arith, Option, Some, None, All, option_map, length-append, eqb}
 use Rattle.std.specs.Prelude.{slice_get, count_by, find, replicate}
 use Rattle.std.specs.List.{enumerate_from, range_with_len}
-use Rattle.std.proofs.lemmas.Bool.{cases_Bool, cases_lt, cases_eq, eq-eqb, ne_eqb, lt-ltb, false≢true}
+use Rattle.std.proofs.lemmas.Bool.{cases_lt, cases_eq, eq-eqb, ne_eqb, lt-ltb}
 use Rattle.std.proofs.lemmas.Option.{same_Some, none-some, get_or_from_slice_get}
 use Rattle.qccd_base.specs.declared.names.Ion.{Ion}
 use Rattle.qccd_base.specs.declared.names.Res.{Res}
 use Rattle.qccd_base.specs.Resource.{among, same_res}
 use Rattle.qccd_machine.specs.Machine.{MachineData}
 use Rattle.op_table.specs.declared.kinds.OpKind.{OpKind}
-use Rattle.op_table.specs.State.{IonPlace, Stand, State, IsSafe, is_at, is_on_segment, is_in_junction, place_from, opening}
+use Rattle.op_table.specs.State.{IonPlace, Stand, is_at, is_on_segment, is_in_junction, place_from, opening}
 use Rattle.op_table.specs.Touch.{touches, nth, is_first, is_head}
-use Rattle.claim_core.specs.Program.{ProgramData, opening_of}
+use Rattle.claim_core.specs.Program.{ProgramData}
 use Rattle.op_table.specs.Start.{IsStart}
 use Rattle.op_cells.specs.declared.cells.Cell.{Cell}
-use Rattle.op_table.specs.declared.contents.Content.{Content}
 use Rattle.op_table.specs.declared.contents.Entry.{Entry}
 use Rattle.op_table.specs.Contents.{seek, entry_of, entry_at, chain, rider_of, carry_of, content}
 use Rattle.op_table.specs.Act.{trap_of}
 use Rattle.op_cells.specs.Numbering.{count_of, index_of, IsThere}
 use Rattle.claim_core.specs.Legal.{IsLegalProgram}
 use Rattle.op_cells.specs.Acted.{CellData}
-use Rattle.claim_core.specs.CellOfRun.{IsCell, cell_at, cell_in, firsts}
+use Rattle.claim_core.specs.CellOfRun.{cell_at, cell_in, firsts}
 use Rattle.claim_core.specs.World.{world_after, opening_world}
-use Rattle.claim_core.specs.AllCells.{AtTurns, AtStep}
+use Rattle.claim_core.specs.AllCells.{AtStep}
 use Rattle.claim_core.specs.First.{start_entry, IsContentAt, FirstCells}
 use Rattle.claim_core.specs.Turns.{Counts, counted_up, first_counted}
-use Rattle.op_table.proofs.Counts.{count_by-cons, find_none, find-map, same_gets}
+use Rattle.op_table.proofs.Counts.{count_by-cons, find-map, same_gets}
 use Rattle.op_table.proofs.Chains.{chain-get}
-use Rattle.op_table.proofs.Openings.{is_ion, ion_times, in_all, place_in, in_trap_only, opening-safe, ion_below}
+use Rattle.op_table.proofs.Openings.{is_ion, place_in, in_trap_only, opening-safe, ion_below}
 use Rattle.claim_core.proofs.Tables.{set_counts, counts_alike, index-within, get_front, get_last, all_there, read-of}
 use Rattle.claim_core.proofs.Turning.{turn-first}
 use Rattle.claim_core.proofs.Worlds.{cell-others}

@@ -1,6 +1,6 @@
 -- A program on a machine of two traps: two gates in the first trap, the way of an ion to the second, and a
 -- gate there.
-use Rattle.std.specs.Prelude.{ℕ, List, [], ◌∷◌, codes, None}
+use Rattle.std.specs.Prelude.{ℕ, List, [], ◌∷◌, codes, replicate}
 use Rattle.qccd_base.specs.Names.{qubit, ion, trap, segment}
 use Rattle.qccd_base.specs.declared.names.Ion.{Ion}
 use Rattle.qccd_base.specs.declared.names.End.TheVariants.{Left, Right}
@@ -8,7 +8,7 @@ use Rattle.qccd_circuit.specs.Item.{ItemData}
 use Rattle.qccd_circuit.specs.Example.{cx_on, h_on}
 use Rattle.op_table.specs.declared.contents.Entry.{Entry}
 use Rattle.op_table.specs.declared.kinds.OpKind.{OpKind}
-use Rattle.op_table.specs.declared.kinds.OpKind.TheVariants.{Split, Move, Merge, Rot, Item}
+use Rattle.op_table.specs.declared.kinds.OpKind.TheVariants.{Split, Move, Merge, Rot, GSwap, Item}
 use Rattle.op_table.specs.Act.{trap_of}
 use Rattle.op_table.specs.Example.{pair}
 use Rattle.op_cells.specs.declared.cells.Done.{Done}
@@ -64,3 +64,10 @@ second_at_the_end = record {
   clock = 770;
   log = done 6 590 670 ∷ done 7 670 770 ∷ [];
 }
+
+-- so many exchanges of the first two ions' qubits
+abbrev pub exchange : OpKind
+exchange = GSwap (trap 0) 0 1
+
+abbrev pub exchanges : ℕ → ProgramData
+exchanges n = record two_gates_and_one { ops = replicate n exchange }

@@ -1,4 +1,4 @@
-use Rattle.std.proofs.Common.{◌≡◌, ◌+◌, ap, sym, subst, refl, length}
+use Rattle.std.proofs.Common.{◌+◌, ap, sym, subst, refl, length}
 use Rattle.claim_core.specs.First.{FirstCells}
 use Rattle.claim_core.proofs.FirstCells.{next-first, rooms-read}
 use Rattle.claim_core.proofs.Stepping.{parts-there}

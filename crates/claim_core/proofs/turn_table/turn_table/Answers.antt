@@ -1,4 +1,4 @@
-use Rattle.std.proofs.Common.{ℕ, List, length, ap, arith, ◌≡◌, ◌≤◌, ◌∙◌, ◌+◌, ◌++◌, ◌∷◌, []}
+use Rattle.std.proofs.Common.{ℕ, List, length, ap, arith, ◌≡◌, ◌≤◌, ◌∙◌, ◌++◌, ◌∷◌, []}
 use Rattle.op_cells.specs.Numbering.{count_of}
 use Rattle.claim_core.proofs.Tables.{may-count, counted-next, turns-few}
 use Rattle.claim_core.proofs.turn_table.turn_table.Goals as goal
