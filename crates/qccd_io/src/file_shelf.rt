@@ -88,3 +88,56 @@ impl<'a, R: Files> Shelf for FileShelf<'a, R> {
         self.faults = self.faults.saturating_add(src.faults);
     }
 }
+
+#[cfg(test)]
+mod tests {
+    use super::*;
+    use crate::fetch_all;
+    use std::io::Chain;
+    use std::test::Fail;
+
+    /// A shelf with one file in two parts. A read ends where the first part does.
+    #[derive(Drop)]
+    struct InTwo<'a> {
+        first: &'a [u8],
+        second: &'a [u8],
+        faults: u64,
+    }
+
+    impl<'a> Shelf for InTwo<'a> {
+        type Src = FileSource<Chain<&'a [u8], &'a [u8]>>;
+
+        ghost faults = { λ s. s.faults };
+
+        ghost told = { λ _. None };
+
+        fn lend(&mut self, _name: &str) -> Result<FileSource<Chain<&'a [u8], &'a [u8]>>, Failed> {
+            Ok(FileSource {
+                file: self.first.chain(self.second),
+                faults: 0,
+            })
+        }
+
+        fn give_back(&mut self, src: FileSource<Chain<&'a [u8], &'a [u8]>>) {
+            self.faults = self.faults.saturating_add(src.faults);
+        }
+    }
+
+    #[test]
+    fn reads_on_after_a_short_read(rt: HostRuntime) -> Result<(), Fail> {
+        let first = vec![in rt.alloc(); b'a'; 70_000]?;
+        let second = vec![in rt.alloc(); b'b'; 50_000]?;
+        let mut shelf = InTwo {
+            first: &first,
+            second: &second,
+            faults: 0,
+        };
+        let Ok(bytes) = fetch_all(rt.alloc(), &mut shelf, "a", 120_000) else {
+            return Err(Fail::from("not fetched"));
+        };
+        assert_eq!(rt; bytes.len(), 120_000);
+        assert!(rt; bytes.starts_with(&first));
+        assert!(rt; bytes.ends_with(&second));
+        Ok(())
+    }
+}

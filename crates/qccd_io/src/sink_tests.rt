@@ -145,3 +145,17 @@ fn passes_on_to_a_stream(rt: HostRuntime) -> Result<(), Fail> {
     notify(&NoPost);
     Ok(())
 }
+
+#[test]
+fn passes_on_long_texts(rt: HostRuntime) -> Result<(), Fail> {
+    let mut text = vec![in rt.alloc(); 0; 150_001]?;
+    for (place, byte) in text.iter_mut().enumerate() {
+        *byte = (place % 251) as u8;
+    }
+    let mut room = vec![in rt.alloc(); 0; 150_001]?;
+    let mut sink = StdSink::of(room.as_mut_slice());
+    assert_eq!(rt; send(&mut sink, &text), Ok(()));
+    drop(sink);
+    assert_eq!(rt; room, text);
+    Ok(())
+}

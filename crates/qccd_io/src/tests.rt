@@ -94,3 +94,21 @@ fn fetches_a_file_of_the_system(rt: HostRuntime) -> Result<(), Fail> {
     assert!(rt; is_same(&gone, Err(FetchFault::ReadFault)));
     Ok(())
 }
+
+// Files of no byte, of one whole read, and of more than that.
+#[test]
+fn fetches_long_files_of_the_system(rt: HostRuntime) -> Result<(), Fail> {
+    let path = "/tmp/qccd_io_fetches_long_files_of_the_system";
+    for size in [0, 65_536, 150_001] {
+        let mut bytes = vec![in rt.alloc(); b'a'; size]?;
+        for (place, byte) in bytes.iter_mut().enumerate() {
+            *byte = (place % 251) as u8;
+        }
+        fs::write(&rt, path, bytes.as_slice())?;
+        let mut shelf = FileShelf::of(&rt);
+        let fetched = fetch_all(rt.alloc(), &mut shelf, path, size as u32);
+        assert!(rt; is_same(&fetched, Ok(bytes.as_slice())), "{size}");
+    }
+    fs::remove_file(&rt, path)?;
+    Ok(())
+}

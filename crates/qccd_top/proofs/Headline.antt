@@ -75,7 +75,7 @@ read_in told name c (text, held, reads) = (text, reads)
 -- what is compiled is the program of a circuit on a machine
 compiled : (call : Call) (word : AskedMachine) (name : List ℕ) (p : ProgramData) → CompiledIn call.told word name (Gives p)
     → (m : MachineData) × (c : CircuitData) × MachineIn call.told word (Gives m) × CircuitIn call.told name (Gives c)
-        × (m ≡ one_trap_of m) × (c.qubits ≤ slots_of m) × (p ≡ in_one_trap c m)
+    × (m ≡ one_trap_of m) × (c.qubits ≤ slots_of m) × (p ≡ in_one_trap c m)
 unfolding ◌>>=◌
 compiled call word name p (m, machine, (u, built, (c, circuit, (v, slots, is)))) = (m, c, machine, circuit, built, slots, is)
 

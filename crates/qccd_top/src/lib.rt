@@ -14,7 +14,7 @@ mod stages;
 mod tests;
 mod top;
 
+pub use edge::start;
 pub use limits::{CIRCUIT_LIMIT, MACHINE_LIMIT, PROGRAM_LIMIT};
 pub use qccd_words::{Command, MachineWord, request};
-pub use edge::start;
 pub use top::{Status, run};

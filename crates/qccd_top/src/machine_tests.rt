@@ -154,7 +154,9 @@ fn runs_hundreds_of_items(rt: HostRuntime) -> Result<(), Fail> {
         let qubit = item % 32;
         circuit.push_str(&format!(in alloc; "h q[{qubit}];\n")?)?;
         let (start, finish) = (item * 5, item * 5 + 5);
-        lines.push_str(&format!(in alloc; "{item} {start} {finish} item {item} h T0 q{qubit}@{qubit}\n")?)?;
+        lines.push_str(&format!(in alloc;
+            "{item} {start} {finish} item {item} h T0 q{qubit}@{qubit}\n"
+        )?)?;
     }
     let told = answer(&rt, "run @single:32 a", b"", circuit.as_bytes(), None)?;
     assert_eq!(rt; told.status, 0);

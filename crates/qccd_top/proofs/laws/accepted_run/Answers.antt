@@ -14,5 +14,12 @@ pub returns : goal.returns
 unfolding ◌>>=◌
 returns c = λ words held capacity circuit text workers mode d reading there few reads fits.
     let p = in_one_trap d (single capacity) in
-    inl (report_text p, (AskedRun (OfPreset Single capacity) circuit workers mode, reading,
-    (p, (single capacity, refl, (tt, refl, (d, (text, (there, few), reads), (tt, omega (arith, fits), refl)))), refl)), refl)
+    inl (
+      report_text p,
+      (
+        AskedRun (OfPreset Single capacity) circuit workers mode,
+        reading,
+        (p, (single capacity, refl, (tt, refl, (d, (text, (there, few), reads), (tt, omega (arith, fits), refl)))), refl),
+      ),
+      refl,
+    )

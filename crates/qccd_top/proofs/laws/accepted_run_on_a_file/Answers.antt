@@ -14,5 +14,12 @@ pub returns : goal.returns
 unfolding ◌>>=◌
 returns c = λ words held machine circuit described text workers mode m d reading held_machine few is built there less reads fits.
     let p = in_one_trap d m in
-    inl (report_text p, (AskedRun (OfFile machine) circuit workers mode, reading,
-    (p, (m, (described, (held_machine, few), is), (tt, built, (d, (text, (there, less), reads), (tt, fits, refl)))), refl)), refl)
+    inl (
+      report_text p,
+      (
+        AskedRun (OfFile machine) circuit workers mode,
+        reading,
+        (p, (m, (described, (held_machine, few), is), (tt, built, (d, (text, (there, less), reads), (tt, fits, refl)))), refl),
+      ),
+      refl,
+    )

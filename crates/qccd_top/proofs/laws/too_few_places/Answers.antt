@@ -13,5 +13,12 @@ use Rattle.qccd_top.proofs.laws.too_few_places.Goals as goal
 pub returns : goal.returns
 unfolding ◌>>=◌
 returns c = λ words held capacity circuit text workers mode d reading there few reads wide.
-    inr (Shortage d.qubits (slots_of (single capacity)), inr (AskedRun (OfPreset Single capacity) circuit workers mode, reading,
-    inl (inr (single capacity, refl, inr (tt, refl, inr (d, (text, (there, few), reads), inl (omega (arith, wide), refl)))))), refl)
+    inr (
+      Shortage d.qubits (slots_of (single capacity)),
+      inr (
+        AskedRun (OfPreset Single capacity) circuit workers mode,
+        reading,
+        inl (inr (single capacity, refl, inr (tt, refl, inr (d, (text, (there, few), reads), inl (omega (arith, wide), refl))))),
+      ),
+      refl,
+    )
