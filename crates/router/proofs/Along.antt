@@ -1,6 +1,6 @@
 -- A segment that is gone along: it is there, and so are both its ends.
-use Rattle.std.proofs.Common.{◌≡◌, ℕ, ◌<◌, ◌≤◌, Bool, true, false, length, subst, sym, ◌∙◌, ap, Option, Some, None, inl, inr, arith}
-use Rattle.std.specs.Prelude.{slice_get, ◌≢◌}
+use Rattle.std.proofs.Common.{◌≡◌, ℕ, ◌<◌, ◌≤◌, true, length, subst, sym, ◌∙◌, ap, Some, None, inl, inr, arith}
+use Rattle.std.specs.Prelude.{slice_get}
 use Rattle.std.proofs.lemmas.Bool.{cases_Bool}
 use Rattle.std.proofs.lemmas.Option.{slice_get_cases, same_Some, none-some}
 use Rattle.qccd_base.specs.Resource.{same_res}

@@ -1,10 +1,9 @@
 -- How many hops it takes, and the next one.
-use Rattle.std.proofs.Common.{◌≡◌, ℕ, zero, suc, ◌+◌, ◌-◌, ◌<◌, ◌≤◌, Bool, true, false, cond, eqb, ◌||◌, ◌&&◌, List, [], ◌∷◌, ◌++◌, map, length, refl, sym, ◌∙◌, ap, arith, Option, Some, None, inl, inr, subst, ◌⊎◌}
-use Rattle.std.specs.Prelude.{find, is_some, slice_get, unwrap_or, ◌==◌, ◌↔◌}
-use Rattle.std.specs.List.{range_with_len, list_any}
-use Rattle.std.proofs.lemmas.Bool.{cases_Bool, cases_eq, cases_lt, and_parts, and_from, eqb-true, eqb-false, eq-eqb, ne_eqb, ltb-true, false≢true, false_from_ne_true}
-use Rattle.std.proofs.lemmas.Option.{slice_get_cases, same_Some, none-some}
-use Rattle.std.proofs.lemmas.Bool.Decides.{nat_tests}
+use Rattle.std.proofs.Common.{◌≡◌, ℕ, zero, suc, ◌+◌, ◌<◌, ◌≤◌, Bool, true, false, eqb, ◌&&◌, List, [], ◌∷◌, length, refl, sym, ◌∙◌, ap, arith, Option, Some, None, inl, inr, subst, ◌⊎◌}
+use Rattle.std.specs.Prelude.{find, ◌==◌, ◌↔◌}
+use Rattle.std.specs.List.{range_with_len}
+use Rattle.std.proofs.lemmas.Bool.{cases_Bool, cases_eq, cases_lt, and_parts, and_from, eqb-true, eq-eqb, false≢true, false_from_ne_true}
+use Rattle.std.proofs.lemmas.Option.{none-some}
 use Rattle.qccd_base.specs.Names.{trap, junction}
 use Rattle.qccd_base.specs.Resource.{same_res, rank_of, number_of}
 use Rattle.qccd_base.specs.declared.names.Res.{Res}
@@ -15,12 +14,12 @@ use Rattle.qccd_machine.specs.declared.place.Place.{Place}
 use Rattle.qccd_machine.specs.declared.place.Place.TheVariants.{TrapEnd, Junction}
 use Rattle.qccd_machine.specs.Machine.{MachineData, IsValid, IsReached, Joins, Leads, first_trap, site}
 use Rattle.router.specs.Wiring.{WiringData, wiring_of, IsWiring}
-use Rattle.router.specs.Paths.{turned, way_along, goes_on, is_last, is_path, hop_path}
+use Rattle.router.specs.Paths.{turned, way_along, goes_on, is_last, is_path}
 use Rattle.router.specs.Hops.{are_neighbours, hops_lead, distance, next_hop}
-use Rattle.router.proofs.Along.{Goes, goes, sound}
+use Rattle.router.proofs.Along.{goes, sound}
 use Rattle.router.proofs.Search.{FirstIn, find_range, found_range, some_of, any_range, in_any_range}
 use Rattle.router.proofs.Walks.{Walks, short_walk}
-use Rattle.router.proofs.LeastPath.{IsHop, hop_path_is, hop_path_found}
+use Rattle.router.proofs.LeastPath.{hop_path_found}
 
 -- ---- hops as walks
 

@@ -1,8 +1,8 @@
 -- A least path, followed from place to place by the least numbers of segments.
-use Rattle.std.proofs.Common.{◌≡◌, ℕ, zero, suc, ◌+◌, ◌-◌, ◌<◌, ◌≤◌, Bool, true, false, cond, eqb, ◌&&◌, List, [], ◌∷◌, ◌++◌, map, length, refl, sym, ◌∙◌, ap, subst, arith, Option, Some, None, inl, inr, ◌⊎◌, append_assoc, append-nil}
+use Rattle.std.proofs.Common.{◌≡◌, ℕ, zero, suc, ◌+◌, ◌-◌, ◌<◌, ◌≤◌, Bool, true, false, eqb, List, [], ◌∷◌, ◌++◌, map, length, refl, sym, ◌∙◌, ap, subst, arith, Option, Some, None, inl, inr, ◌⊎◌, append_assoc, append-nil}
 use Rattle.std.specs.Prelude.{find, is_some, option_map, slice_get, ◌==◌}
 use Rattle.std.specs.List.{range_with_len, list_any}
-use Rattle.std.proofs.lemmas.Bool.{cases_Bool, cases_eq, and_parts, eqb-true, eq-eqb, ne_eqb, false≢true}
+use Rattle.std.proofs.lemmas.Bool.{cases_Bool, cases_eq, and_parts, eqb-true, eq-eqb, false≢true}
 use Rattle.std.proofs.lemmas.Option.{none-some, same_Some}
 use Rattle.qccd_base.specs.Names.{trap}
 use Rattle.qccd_base.specs.Resource.{same_res}
@@ -17,7 +17,7 @@ use Rattle.router.specs.Paths.{first_of, hop_path, path_behind, path_of, turned,
 use Rattle.router.specs.Steps.{AreLeast, HasCount, is_at, leads_on, least_steps, steps_at}
 use Rattle.router.specs.Greedy.{far_along, LeadsFrom}
 use Rattle.router.specs.declared.steps.Steps.{Steps}
-use Rattle.router.proofs.Along.{Sound, sound, counted}
+use Rattle.router.proofs.Along.{sound, counted}
 use Rattle.router.proofs.Search.{FirstIn, find_range, any_range}
 use Rattle.router.proofs.Rounds.{leads_behind, some_behind, some_first}
 
@@ -28,8 +28,8 @@ first_at f a zero g low high none some = absurd (omega arith)
 first_at f a (suc n) g low high none some = elim (cases_eq a g) [
   | inl same ↦ let here : is_some (f a) ≡ true = subst (λ k. is_some (f k) ≡ true) (sym same) some in rw here (ap f same)
   | inr apart ↦
-    let less : a < g = below a g apart low in
-    rw (none a (omega arith) less) (first_at f (a + 1) n g (omega (arith, less)) (omega arith) (λ h at_least. none h (omega arith)) some)
+      let less : a < g = below a g apart low in
+      rw (none a (omega arith) less) (first_at f (a + 1) n g (omega (arith, less)) (omega arith) (λ h at_least. none h (omega arith)) some)
 ]
   where
     below : (a g : ℕ) → (a ≡ g → ⊥) → a ≤ g → a < g
@@ -71,17 +71,17 @@ pub behind_by_far : (w : WiringData) (t left g : ℕ) (r : Res) (ends : Place ×
     → some_behind w t left r g ≡ far_leads steps t left (far_along r ends)
 behind_by_far w t left g r ends steps wiring least k is there = elim (cases_Bool (same_res (site ends.0) r)) [
   | inl forth ↦
-    let way : way_along w r g ≡ Some (ends.0, ends.1) = ap (turned r) is ∙ rw forth refl in
-    ap (λ o. is_some (path_behind t left g o (path_of w t left))) way ∙ leads_behind w t left (w.junctions + 1) g r ends.0 ends.1 steps k.within there way (counted w ends.1 wiring (sound w g ends wiring is).far_there) least k.none_fewer
-    ∙ sym (ap (far_leads steps t left) (let far : far_along r ends ≡ Some ends.1 = rw forth refl in far))
+      let way : way_along w r g ≡ Some (ends.0, ends.1) = ap (turned r) is ∙ rw forth refl in
+      ap (λ o. is_some (path_behind t left g o (path_of w t left))) way ∙ leads_behind w t left (w.junctions + 1) g r ends.0 ends.1 steps k.within there way (counted w ends.1 wiring (sound w g ends wiring is).far_there) least k.none_fewer
+      ∙ sym (ap (far_leads steps t left) (let far : far_along r ends ≡ Some ends.1 = rw forth refl in far))
   | inr not_forth ↦ elim (cases_Bool (same_res (site ends.1) r)) [
     | inl back ↦
-      let way : way_along w r g ≡ Some (ends.1, ends.0) = ap (turned r) is ∙ rw (not_forth, back) refl in
-      ap (λ o. is_some (path_behind t left g o (path_of w t left))) way ∙ leads_behind w t left (w.junctions + 1) g r ends.1 ends.0 steps k.within there way (counted w ends.0 wiring (sound w g ends wiring is).near_there) least k.none_fewer
-      ∙ sym (ap (far_leads steps t left) (let far : far_along r ends ≡ Some ends.0 = rw (not_forth, back) refl in far))
+        let way : way_along w r g ≡ Some (ends.1, ends.0) = ap (turned r) is ∙ rw (not_forth, back) refl in
+        ap (λ o. is_some (path_behind t left g o (path_of w t left))) way ∙ leads_behind w t left (w.junctions + 1) g r ends.1 ends.0 steps k.within there way (counted w ends.0 wiring (sound w g ends wiring is).near_there) least k.none_fewer
+        ∙ sym (ap (far_leads steps t left) (let far : far_along r ends ≡ Some ends.0 = rw (not_forth, back) refl in far))
     | inr not_back ↦
-      let way : way_along w r g ≡ None = ap (turned r) is ∙ rw (not_forth, not_back) refl in
-      ap (λ o. is_some (path_behind t left g o (path_of w t left))) way ∙ sym (ap (far_leads steps t left) (let far : far_along r ends ≡ None = rw (not_forth, not_back) refl in far))
+        let way : way_along w r g ≡ None = ap (turned r) is ∙ rw (not_forth, not_back) refl in
+        ap (λ o. is_some (path_behind t left g o (path_of w t left))) way ∙ sym (ap (far_leads steps t left) (let far : far_along r ends ≡ None = rw (not_forth, not_back) refl in far))
   ]
 ]
 
@@ -94,12 +94,12 @@ near_any t left g near (Junction j) more = refl
 way_of_far : (w : WiringData) (r : Res) (g : ℕ) (ends : Place × Place) (far : Place) → slice_get w.segments g ≡ Some ends → far_along r ends ≡ Some far → (near : Place) × (way_along w r g ≡ Some (near, far)) × ((far ≡ ends.0) ⊎ (far ≡ ends.1))
 way_of_far w r g ends far is along = elim (cases_Bool (same_res (site ends.0) r)) [
   | inl forth ↦
-    let same : ends.1 ≡ far = same_Some ends.1 far (rw forth at along) in
-    (ends.0, ap (turned r) is ∙ rw forth (ap (λ (p : Place). Some (ends.0, p)) same), inr (sym same))
+      let same : ends.1 ≡ far = same_Some ends.1 far (rw forth at along) in
+      (ends.0, ap (turned r) is ∙ rw forth (ap (λ (p : Place). Some (ends.0, p)) same), inr (sym same))
   | inr not_forth ↦ elim (cases_Bool (same_res (site ends.1) r)) [
     | inl back ↦
-      let same : ends.0 ≡ far = same_Some ends.0 far (rw (not_forth, back) at along) in
-      (ends.1, ap (turned r) is ∙ rw (not_forth, back) (ap (λ (p : Place). Some (ends.1, p)) same), inl (sym same))
+        let same : ends.0 ≡ far = same_Some ends.0 far (rw (not_forth, back) at along) in
+        (ends.1, ap (turned r) is ∙ rw (not_forth, back) (ap (λ (p : Place). Some (ends.1, p)) same), inl (sym same))
     | inr not_back ↦ absurd (none-some far (let bad : None ≡ Some far = rw (not_forth, not_back) at along in bad))
   ]
 ]
@@ -112,8 +112,8 @@ first_leads w t left g r ends far steps wiring least k is there none along leads
     let some : some_behind w t left r g ≡ true = behind_by_far w t left g r ends steps wiring least k is there ∙ ap (far_leads steps t left) (sym along) ∙ leads in
     record {
       begins = ap (λ n. path_of w t n r) next
-        ∙ first_at (λ h. path_behind t left h (way_along w r h) (path_of w t left)) 0 (length w.segments) g (omega arith) (omega arith) (λ h low less. none h less) some
-        ∙ ap (λ o. path_behind t left g o (path_of w t left)) way.1 ∙ near_any t left g way.0 far (path_of w t left);
+          ∙ first_at (λ h. path_behind t left h (way_along w r h) (path_of w t left)) 0 (length w.segments) g (omega arith) (omega arith) (λ h low less. none h less) some
+          ∙ ap (λ o. path_behind t left g o (path_of w t left)) way.1 ∙ near_any t left g way.0 far (path_of w t left);
       leads = leads;
       there = elim way.2 [
         | inl first ↦ subst HasCount (sym first) (counted w ends.0 wiring (sound w g ends wiring is).near_there)
@@ -150,10 +150,10 @@ one_further w t count left g start r far ns new steps step least is whole =
     whole ∙ ap (option_map (λ rest. ns ++ rest)) step.begins ∙ by_far left far step.leads step.there ∙ ap (λ (xs : List ℕ). option_map (λ rest. xs ++ rest) (rest_of w t left (site far))) (sym is)
   where
     by_far : (left : ℕ) (far : Place) → leads_on steps t far left ≡ true → HasCount far
-      → option_map (λ rest. ns ++ rest) (path_behind t left g (Some (far, far)) (path_of w t left)) ≡ option_map (λ rest. (ns ++ g ∷ []) ++ rest) (rest_of w t left (site far))
+        → option_map (λ rest. ns ++ rest) (path_behind t left g (Some (far, far)) (path_of w t left)) ≡ option_map (λ rest. (ns ++ g ∷ []) ++ rest) (rest_of w t left (site far))
     by_far zero (TrapEnd u e) leads has =
-      let here : eqb u.0 t ≡ true = (and_parts (zero == 0) (u.0 == t) leads).1 in
-      rw here (ap (λ (x : List ℕ). Some x) (sym (append-nil (ns ++ g ∷ []))))
+        let here : eqb u.0 t ≡ true = (and_parts (zero == 0) (u.0 == t) leads).1 in
+        rw here (ap (λ (x : List ℕ). Some x) (sym (append-nil (ns ++ g ∷ []))))
     by_far (suc n) (TrapEnd u e) leads has = absurd (let bad : eqb (suc n) 0 ≡ true = (and_parts (suc n == 0) (u.0 == t) leads).0 in let zero_is : suc n ≡ 0 = eqb-true (suc n) 0 bad in omega arith)
     by_far zero (Junction j) leads has = absurd (omega (arith, (find_range (λ count. is_some (path_of w t count (res.Junc j))) 1 (w.junctions + 1) 0 (sym (least (Junction j) has) ∙ at_of (steps_at steps (Junction j)) 0 leads)).from))
     by_far (suc n) (Junction j) leads has = behind_all ns (g ∷ []) (path_of w t (suc n) (res.Junc j))
@@ -169,6 +169,7 @@ at_start w t count start steps has least is = by_count count ((find_range (λ co
     all_of : (o : Option (List ℕ)) → o ≡ option_map (λ rest. [] ++ rest) o
     all_of None = refl
     all_of (Some p) = refl
+
     by_count : (n : ℕ) → 1 ≤ n → path_of w t n (site start) ≡ option_map (λ rest. [] ++ rest) (rest_of w t n (site start))
     by_count zero positive = absurd (omega arith)
     by_count (suc n) positive = all_of (path_of w t (suc n) (site start))

@@ -1,23 +1,21 @@
 -- What a round over neighbours finds, and what its numbers say of hops.
-use Rattle.std.proofs.Common.{◌≡◌, ◌≢◌, ℕ, zero, suc, ◌+◌, ◌-◌, ◌<◌, ◌≤◌, Bool, true, false, cond, eqb, ◌||◌, ◌&&◌, List, [], ◌∷◌, ◌++◌, map, length, refl, sym, ◌∙◌, ap, subst, arith, Option, Some, None, inl, inr, ◌⊎◌, replicate, get_or, set}
-use Rattle.std.specs.Prelude.{find, is_some, option_map, slice_get, slice_set, slice_index_or, unwrap_or, ◌==◌, if◌then◌else◌}
+use Rattle.std.proofs.Common.{◌≡◌, ℕ, zero, suc, ◌+◌, ◌-◌, ◌<◌, ◌≤◌, Bool, true, false, cond, eqb, ◌&&◌, List, [], ◌∷◌, length, refl, sym, ◌∙◌, ap, subst, arith, Option, Some, None, inl, inr, replicate, get_or, set}
+use Rattle.std.specs.Prelude.{find, is_some, option_map, slice_set, slice_index_or, unwrap_or, ◌==◌, if◌then◌else◌}
 use Rattle.std.specs.Option.{option_or}
 use Rattle.std.specs.List.{range_with_len, list_any}
-use Rattle.std.proofs.lemmas.Bool.{cases_Bool, cases_eq, cases_lt, and_parts, and_from, eqb-true, eq-eqb, ne_eqb, false≢true, false_from_ne_true}
+use Rattle.std.proofs.lemmas.Bool.{cases_Bool, cases_eq, cases_lt, and_from, eq-eqb, ne_eqb, false≢true, false_from_ne_true}
 use Rattle.std.proofs.lemmas.Bool.Decides.{nat_tests}
 use Rattle.std.proofs.lemmas.Option.{none-some}
 use Rattle.std.proofs.lemmas.List.{get_or-replicate, get_or-set_other, get_or-set_same, length-replicate}
 use Rattle.qccd_base.specs.Names.{trap}
-use Rattle.qccd_base.specs.declared.names.TrapId.{TrapId}
 use Rattle.router.specs.Wiring.{WiringData, IsWiring}
 use Rattle.router.specs.Hops.{are_neighbours, distance, hops_lead, next_hop}
 use Rattle.router.specs.Steps.{is_at}
 use Rattle.router.specs.Counts.{AreCounts, count_at, is_near, least_hops, near}
 use Rattle.router.specs.Tables.{hop_of}
 use Rattle.router.specs.declared.hops.Counts.{Counts}
-use Rattle.router.specs.declared.hops.Hop.{Hop}
 use Rattle.router.proofs.Search.{FirstIn, find_range, found_range, in_any_range, some_of}
-use Rattle.router.proofs.Distances.{IsDistance, distance_is}
+use Rattle.router.proofs.Distances.{distance_is}
 use Rattle.router.proofs.Rounds.{find_more}
 
 -- ---- the first of a range that passes
@@ -27,8 +25,8 @@ find_at p a zero g low high none passes = absurd (omega arith)
 find_at p a (suc n) g low high none passes = elim (cases_eq a g) [
   | inl same ↦ let here : p a ≡ true = subst (λ k. p k ≡ true) (sym same) passes in rw here (ap (λ (k : ℕ). Some k) same)
   | inr apart ↦
-    let less : a < g = below a g apart low in
-    rw (none a (omega arith) less) (find_at p (a + 1) n g (omega (arith, less)) (omega arith) (λ h at_least. none h (omega arith)) passes)
+      let less : a < g = below a g apart low in
+      rw (none a (omega arith) less) (find_at p (a + 1) n g (omega (arith, less)) (omega arith) (λ h at_least. none h (omega arith)) passes)
 ]
   where
     below : (a g : ℕ) → (a ≡ g → ⊥) → a ≤ g → a < g
@@ -84,23 +82,24 @@ near_alike w b n a c counts known there none = elim (cases_Bool (are_neighbours 
   where
     below : (k n : ℕ) → (k ≡ n → ⊥) → k ≤ n → suc k < 0 + (n + 1)
     below k n apart at_most = grind arith
+
     by_known : (o : Option ℕ) → least_hops w b (n + 1) c ≡ o → are_neighbours w a c ≡ true → is_at o n ≡ hops_lead w b n c
     by_known None is joined = sym (false_from_ne_true (hops_lead w b n c) (λ lead.
-      let found : (k : ℕ) × (find (λ count. hops_lead w b count c) (range_with_len 0 (n + 1)) ≡ Some k) = some_of (find (λ count. hops_lead w b count c) (range_with_len 0 (n + 1))) (found_range (λ count. hops_lead w b count c) 0 (n + 1) n lead (omega arith) (omega arith)) in
-      none-some found.0 (sym is ∙ found.1)))
+        let found : (k : ℕ) × (find (λ count. hops_lead w b count c) (range_with_len 0 (n + 1)) ≡ Some k) = some_of (find (λ count. hops_lead w b count c) (range_with_len 0 (n + 1))) (found_range (λ count. hops_lead w b count c) 0 (n + 1) n lead (omega arith) (omega arith)) in
+        none-some found.0 (sym is ∙ found.1)))
     by_known (Some k) is joined =
-      let first : FirstIn (λ count. hops_lead w b count c) 0 (n + 1) k = find_range (λ count. hops_lead w b count c) 0 (n + 1) k is in
-      elim (cases_eq k n) [
-        | inl same ↦ eq-eqb k n same ∙ sym (subst (λ i. hops_lead w b i c ≡ true) same first.passes)
-        | inr other ↦ ne_eqb k n other ∙ sym (false_from_ne_true (hops_lead w b n c) (λ lead. elim (cases_lt n k) [
-          | inl less ↦ false≢true (sym (first.first n (omega arith) less) ∙ lead)
-          | inr more ↦
-            let from_a : hops_lead w b (suc k) a ≡ true = in_any_range (λ d. are_neighbours w a d && hops_lead w b k d) 0 w.traps c (and_from (are_neighbours w a c) (hops_lead w b k c) joined first.passes) (omega arith) (omega arith) in
-            let found : (i : ℕ) × (find (λ count. hops_lead w b count a) (range_with_len 0 (n + 1)) ≡ Some i) =
-              some_of (find (λ count. hops_lead w b count a) (range_with_len 0 (n + 1))) (found_range (λ count. hops_lead w b count a) 0 (n + 1) (suc k) from_a (omega arith) (below k n other more)) in
-            none-some found.0 (sym none ∙ found.1)
-        ]))
-      ]
+        let first : FirstIn (λ count. hops_lead w b count c) 0 (n + 1) k = find_range (λ count. hops_lead w b count c) 0 (n + 1) k is in
+        elim (cases_eq k n) [
+          | inl same ↦ eq-eqb k n same ∙ sym (subst (λ i. hops_lead w b i c ≡ true) same first.passes)
+          | inr other ↦ ne_eqb k n other ∙ sym (false_from_ne_true (hops_lead w b n c) (λ lead. elim (cases_lt n k) [
+            | inl less ↦ false≢true (sym (first.first n (omega arith) less) ∙ lead)
+            | inr more ↦
+                let from_a : hops_lead w b (suc k) a ≡ true = in_any_range (λ d. are_neighbours w a d && hops_lead w b k d) 0 w.traps c (and_from (are_neighbours w a c) (hops_lead w b k c) joined first.passes) (omega arith) (omega arith) in
+                let found : (i : ℕ) × (find (λ count. hops_lead w b count a) (range_with_len 0 (n + 1)) ≡ Some i) =
+                some_of (find (λ count. hops_lead w b count a) (range_with_len 0 (n + 1))) (found_range (λ count. hops_lead w b count a) 0 (n + 1) (suc k) from_a (omega arith) (below k n other more)) in
+                none-some found.0 (sym none ∙ found.1)
+          ]))
+        ]
 
 any_alike : (p q : ℕ → Bool) (a n : ℕ) → ((h : ℕ) → a ≤ h → h < a + n → p h ≡ q h) → list_any p (range_with_len a n) ≡ list_any q (range_with_len a n)
 any_alike p q a n same = sym (some_any p (range_with_len a n)) ∙ ap is_some (find_alike p q a n same) ∙ some_any q (range_with_len a n)
@@ -113,7 +112,8 @@ count_more w b (suc m) a counts leads new some known is new_is = new_is ∙ by_k
   where
     leads_is : least_hops w b (suc m) a ≡ None → leads ≡ hops_lead w b (suc m) a
     leads_is none = is ∙ ap (λ k. is_some (near w counts a k)) (let e : suc m - 1 ≡ m = omega arith in e) ∙ some_map (find (is_near w counts a m) (range_with_len 0 w.traps)) ∙ some_any (is_near w counts a m) (range_with_len 0 w.traps)
-      ∙ any_alike (is_near w counts a m) (λ c. are_neighbours w a c && hops_lead w b m c) 0 w.traps (λ c low high. near_alike w b m a c counts (subst (λ k. AreCounts w b k counts) (let e : suc m ≡ m + 1 = omega arith in e) known) (omega arith) (ap (λ k. least_hops w b k a) (let e : m + 1 ≡ suc m = omega arith in e) ∙ none))
+        ∙ any_alike (is_near w counts a m) (λ c. are_neighbours w a c && hops_lead w b m c) 0 w.traps (λ c low high. near_alike w b m a c counts (subst (λ k. AreCounts w b k counts) (let e : suc m ≡ m + 1 = omega arith in e) known) (omega arith) (ap (λ k. least_hops w b k a) (let e : m + 1 ≡ suc m = omega arith in e) ∙ none))
+
     by_known : (o : Option ℕ) → least_hops w b (suc m) a ≡ o → (if leads then option_or o (Some (suc m)) else o) ≡ option_or o (cond (hops_lead w b (suc m) a) (Some (suc m)) None)
     by_known (Some k) have = elim (cases_Bool leads) [ inl yes_is ↦ rw yes_is refl | inr no_is ↦ rw no_is refl ]
     by_known None have = ap (λ x. cond x (Some (suc m)) None) (leads_is have)
@@ -127,6 +127,7 @@ known_distance w a b counts wiring known a_there b_there = known a a_there ∙ o
     of_some : (o : Option ℕ) → is_some o ≡ true → o ≡ Some (unwrap_or o 0)
     of_some None some = cc
     of_some (Some n) some = refl
+
     found : is_some (least_hops w b w.traps a) ≡ true
     found = found_range (λ count. hops_lead w b count a) 0 w.traps (distance w a b) (distance_is w a b wiring a_there b_there).leads (omega arith) (omega (arith, (distance_is w a b wiring a_there b_there).below))
 

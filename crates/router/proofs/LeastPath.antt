@@ -1,21 +1,19 @@
 -- What the path of a hop is: it leads, it is short, and it is found wherever some path leads.
-use Rattle.std.proofs.Common.{◌≡◌, ℕ, zero, suc, ◌+◌, ◌<◌, ◌≤◌, Bool, true, false, cond, eqb, ltb, ◌||◌, ◌&&◌, List, [], ◌∷◌, ◌++◌, map, length, refl, sym, ◌∙◌, ap, arith, Option, Some, None, inl, inr, subst, ◌⊎◌}
-use Rattle.std.specs.Prelude.{find, is_some, slice_get, option_map, ◌==◌}
+use Rattle.std.proofs.Common.{◌≡◌, ℕ, zero, suc, ◌+◌, ◌<◌, ◌≤◌, Bool, true, false, eqb, ltb, ◌&&◌, List, [], ◌∷◌, length, refl, sym, ◌∙◌, ap, arith, Option, Some, None, inl, inr, subst, ◌⊎◌}
+use Rattle.std.specs.Prelude.{find, is_some, option_map, ◌==◌}
 use Rattle.std.specs.List.{range_with_len, AllByRecursion}
-use Rattle.std.proofs.lemmas.Bool.{cases_Bool, and_parts, and_from, eqb-true, eq-eqb, cases_lt, cases_eq, false≢true}
+use Rattle.std.proofs.lemmas.Bool.{cases_Bool, and_parts, eqb-true, eq-eqb, cases_lt, cases_eq, false≢true}
 use Rattle.std.proofs.lemmas.Bool.Decides.{nat_tests}
 use Rattle.qccd_base.specs.Names.{trap, junction}
 use Rattle.qccd_base.specs.declared.names.Res.{Res}
 use Rattle.qccd_base.specs.declared.names.Res.TheVariants as res
 use Rattle.qccd_base.specs.declared.names.JuncId.{JuncId}
-use Rattle.qccd_base.specs.declared.names.TrapId.{TrapId}
 use Rattle.qccd_base.specs.declared.names.End.{End}
 use Rattle.qccd_machine.specs.declared.place.Place.{Place}
 use Rattle.qccd_machine.specs.declared.place.Place.TheVariants.{TrapEnd, Junction}
-use Rattle.qccd_machine.specs.Machine.{site}
 use Rattle.router.specs.Wiring.{WiringData, IsWiring}
-use Rattle.router.specs.Paths.{way_along, goes_on, is_last, is_less, is_path, lists_of, first_of, path_behind, path_of, hop_path}
-use Rattle.router.proofs.Along.{Goes, goes, way_there}
+use Rattle.router.specs.Paths.{way_along, goes_on, is_last, is_less, is_path, lists_of, path_behind, path_of, hop_path}
+use Rattle.router.proofs.Along.{goes, way_there}
 use Rattle.router.proofs.Search.{FirstIn, first_range, firsts_range, found_list, length_list, find_passes, find_lists, first_alike, all_long, some-map}
 use Rattle.router.proofs.Walks.{Walks, short_walk}
 

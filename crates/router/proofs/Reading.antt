@@ -1,10 +1,10 @@
 -- What is read of the tables of all traps.
-use Rattle.std.proofs.Common.{◌≡◌, ℕ, ◌+◌, ◌<◌, List, map, length, get_or, sym, ◌∙◌, ap, subst, arith, Option, Some, None}
+use Rattle.std.proofs.Common.{◌≡◌, ℕ, ◌<◌, List, map, length, get_or, ◌∙◌, ap, arith, Option, Some}
 use Rattle.std.specs.Prelude.{slice_get}
 use Rattle.std.specs.List.{range_with_len}
 use Rattle.router.specs.Wiring.{WiringData}
 use Rattle.router.specs.Paths.{hop_path}
-use Rattle.router.specs.Tables.{all_hops, all_paths, hop_of, hops_to, paths_to}
+use Rattle.router.specs.Tables.{all_hops, all_paths, hop_of}
 use Rattle.router.specs.declared.hops.Hop.{Hop}
 use Rattle.router.proofs.Tabled.{entry_at, entry_got, table_long}
 

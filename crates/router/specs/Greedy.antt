@@ -1,5 +1,5 @@
 -- One segment of a least path.
-use Rattle.std.specs.Prelude.{◌≡◌, ℕ, ◌+◌, Bool, true, List, ◌∷◌, Option, Some, None, if◌then◌else◌}
+use Rattle.std.specs.Prelude.{◌≡◌, ℕ, ◌+◌, true, Option, Some, None, if◌then◌else◌}
 use Rattle.qccd_base.specs.Resource.{same_res}
 use Rattle.qccd_base.specs.declared.names.Res.{Res}
 use Rattle.qccd_machine.specs.declared.place.Place.{Place}

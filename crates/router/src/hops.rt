@@ -80,9 +80,11 @@ impl Counts {
         ensures { result ≡ near wiring.now self.now from.0 left }
     {
         for number in 0..wiring.traps() {
-            let trap = TrapId(number);
-            if are_neighbours(wiring, paths, from, trap) && self.is_at(wiring, trap, left) {
-                return Some(trap);
+            let neighbour = TrapId(number);
+            if are_neighbours(wiring, paths, from, neighbour)
+                && self.is_at(wiring, neighbour, left)
+            {
+                return Some(neighbour);
             }
         }
         None
@@ -129,13 +131,7 @@ pub(crate) struct Hop {
 
 impl Hop {
     // The hop from the trap that the numbers of hops to `to` tell.
-    fn of(
-        wiring: &Wiring,
-        paths: &[PathsTo],
-        counts: &Counts,
-        from: TrapId,
-        to: TrapId,
-    ) -> Hop
+    fn of(wiring: &Wiring, paths: &[PathsTo], counts: &Counts, from: TrapId, to: TrapId) -> Hop
         requires from { from.0 < wiring.now.traps }
         requires to { to.0 < wiring.now.traps }
         requires paths { paths.now ≡ all_paths wiring.now }

@@ -56,7 +56,10 @@ impl Steps {
         if leads {
             match place {
                 Place::TrapEnd(trap, _) => note(&mut self.traps[usize::from(trap.0)], count),
-                Place::Junction(junction) => note(&mut self.junctions[usize::from(junction.0)], count),
+                Place::Junction(junction) => note(
+                    &mut self.junctions[usize::from(junction.0)],
+                    count,
+                ),
             }
         }
     }

@@ -1,4 +1,4 @@
-use Rattle.std.proofs.Common.{◌≡◌, ◌+◌, ◌-◌, ◌<◌, ◌∙◌, ap, sym, arith, ℕ, inl, inr, subst, Option, Some}
+use Rattle.std.proofs.Common.{◌≡◌, ◌+◌, ◌<◌, ◌∙◌, ap, sym, arith, ℕ, inl, inr, subst, Option, Some}
 use Rattle.std.specs.Prelude.{is_some, if◌then◌else◌}
 use Rattle.std.specs.Option.{option_or}
 use Rattle.std.proofs.lemmas.Bool.{cases_eq}
@@ -15,7 +15,7 @@ loop-number-preserved c =
     record {
       done = λ a less. elim (cases_eq a c.loop-number.number) [
         | inl same ↦ subst (λ (k : ℕ). count_at c.reach.new.self k ≡ least_hops c.args.wiring.now c.args.to.0 (c.args.count + 1) k) (sym same)
-          (count_more c.args.wiring.now c.args.to.0 c.args.count c.loop-number.number c.args.self.now c.is_some-near.result (count_at c.reach.new.self c.loop-number.number) c.requires.some c.requires.counts
+            (count_more c.args.wiring.now c.args.to.0 c.args.count c.loop-number.number c.args.self.now c.is_some-near.result (count_at c.reach.new.self c.loop-number.number) c.requires.some c.requires.counts
             (c.is_some-near.ensures ∙ ap is_some c.near.ensures)
             (c.reach.ensures.own ∙ ap (λ (o : Option ℕ). if c.is_some-near.result then option_or o (Some c.args.count) else o) (c.loop-number.invariant.left c.loop-number.number (omega arith) there)))
         | inr apart ↦ c.reach.ensures.others a apart ∙ c.loop-number.invariant.done a (below a c.loop-number.number apart less)

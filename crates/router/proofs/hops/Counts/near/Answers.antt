@@ -1,4 +1,4 @@
-use Rattle.std.proofs.Common.{◌≡◌, ◌∙◌, sym, arith}
+use Rattle.std.proofs.Common.{◌∙◌, sym, arith}
 use Rattle.router.proofs.Hopping.{near_at, near_none}
 use Rattle.router.proofs.hops.Counts.near.Goals as goal
 

@@ -1,4 +1,4 @@
-use Rattle.std.proofs.Common.{◌≡◌, ◌∙◌, ap, ℕ, Option, None, Some, replicate}
+use Rattle.std.proofs.Common.{◌∙◌, ap, None, Some, replicate}
 use Rattle.std.specs.Prelude.{slice_index_or, slice_set}
 use Rattle.router.proofs.Along.{few_parts}
 use Rattle.router.proofs.Hopping.{counts_start}

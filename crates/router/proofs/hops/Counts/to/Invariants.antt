@@ -1,4 +1,3 @@
-use Rattle.std.proofs.Common.{ℕ}
 use Rattle.router.specs.Counts.{AreCounts}
 use Rattle.router.proofs.hops.Counts.to.Given as goal
 

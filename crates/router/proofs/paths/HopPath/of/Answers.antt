@@ -1,4 +1,4 @@
-use Rattle.std.proofs.Common.{◌≡◌, ◌∙◌, sym, ap, List, ℕ, Some}
+use Rattle.std.proofs.Common.{◌∙◌, sym}
 use Rattle.std.proofs.lemmas.Bool.{ne_eqb}
 use Rattle.qccd_base.specs.declared.names.End.TheVariants.{Left}
 use Rattle.qccd_machine.specs.declared.place.Place.TheVariants.{TrapEnd}

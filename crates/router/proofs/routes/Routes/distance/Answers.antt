@@ -1,4 +1,4 @@
-use Rattle.std.proofs.Common.{rules, length, ◌<◌, ◌≡◌, ◌∙◌, ap, arith}
+use Rattle.std.proofs.Common.{rules, length, ◌<◌, ap}
 use Rattle.router.specs.declared.hops.Hop.{Hop}
 use Rattle.router.proofs.Reading.{hop_got, hops_long, hops_row_long}
 use Rattle.router.proofs.routes.Routes.distance.Goals as goal
@@ -14,4 +14,4 @@ at-requires c = hops_row_long c.self.inside.wiring c.args.self.now c.args.from.0
 pub returns : goal.returns
 returns c =
     ap (λ (hop : Hop). hop.distance)
-      (hop_got c.self.inside.wiring c.args.self.now c.args.from.0 c.args.to.0 c.from.result c.self.inside.hops.items c.index.result.now c.at.result.now c.self.view_is c.self.invariant.2 c.from.ensures c.requires.to c.requires.from c.index.ensures c.at.ensures)
+    (hop_got c.self.inside.wiring c.args.self.now c.args.from.0 c.args.to.0 c.from.result c.self.inside.hops.items c.index.result.now c.at.result.now c.self.view_is c.self.invariant.2 c.from.ensures c.requires.to c.requires.from c.index.ensures c.at.ensures)

@@ -31,10 +31,10 @@ at-requires c = hops_row_long c.self.inside.wiring c.args.self.now c.args.from.0
 pub returns-clause-hop : goal.returns-clause-hop
 returns-clause-hop c =
     ap (λ (hop : Hop). hop.next)
-      (hop_got c.self.inside.wiring c.args.self.now c.args.from.0 c.args.to.0 c.from.result c.self.inside.hops.items c.index.result.now c.at.result.now c.self.view_is c.self.invariant.2 c.from.ensures c.requires.to c.requires.from c.index.ensures c.at.ensures)
+    (hop_got c.self.inside.wiring c.args.self.now c.args.from.0 c.args.to.0 c.from.result c.self.inside.hops.items c.index.result.now c.at.result.now c.self.view_is c.self.invariant.2 c.from.ensures c.requires.to c.requires.from c.index.ensures c.at.ensures)
 
 pub returns-clause-none : goal.returns-clause-none
 returns-clause-none c =
     none_where_equal c.args.self.now c.args.from c.args.to c.at.result.now.next (subst IsWiring c.self.view_is c.self.invariant.0) c.requires.from c.requires.to
-      (ap (λ (hop : Hop). hop.next)
-        (hop_got c.self.inside.wiring c.args.self.now c.args.from.0 c.args.to.0 c.from.result c.self.inside.hops.items c.index.result.now c.at.result.now c.self.view_is c.self.invariant.2 c.from.ensures c.requires.to c.requires.from c.index.ensures c.at.ensures))
+    (ap (λ (hop : Hop). hop.next)
+    (hop_got c.self.inside.wiring c.args.self.now c.args.from.0 c.args.to.0 c.from.result c.self.inside.hops.items c.index.result.now c.at.result.now c.self.view_is c.self.invariant.2 c.from.ensures c.requires.to c.requires.from c.index.ensures c.at.ensures))

@@ -1,4 +1,4 @@
-use Rattle.std.proofs.Common.{◌≡◌, ◌+◌, ◌∙◌, sym, ap, suc, arith, length, get_or, List, Some, ℕ, Bool}
+use Rattle.std.proofs.Common.{◌≡◌, ◌+◌, ◌∙◌, sym, ap, suc, arith, length, get_or, List, Some}
 use Rattle.std.specs.Prelude.{slice_get}
 use Rattle.std.proofs.lemmas.Option.{slice_get-get_or}
 use Rattle.qccd_base.specs.Names.{trap}
@@ -7,7 +7,7 @@ use Rattle.qccd_base.specs.declared.names.End.TheVariants.{Left}
 use Rattle.qccd_machine.specs.declared.place.Place.{Place}
 use Rattle.qccd_machine.specs.declared.place.Place.TheVariants.{TrapEnd}
 use Rattle.qccd_machine.specs.Machine.{site}
-use Rattle.router.specs.Steps.{AreLeast, HasCount, leads_on, least_steps, steps_at}
+use Rattle.router.specs.Steps.{leads_on, steps_at}
 use Rattle.router.proofs.Along.{Sound, counted, sound}
 use Rattle.router.proofs.Rounds.{both_ends, so_far, so_far_all, so_far_none, told}
 use Rattle.router.proofs.steps.Steps.further.Goals as goal
@@ -25,10 +25,10 @@ loop-a-preserved c = λ p has.
     c.reach-in-loop-a.ensures p has
     ∙ ap (λ b. told b (same_res (site ends.1) (site p)) (c.args.left + 1) (steps_at c.reach.new.self p)) c.leads_on-in-loop-a.ensures
     ∙ ap (told (leads_on c.args.self.now c.args.to.0 ends.0 c.args.left) (same_res (site ends.1) (site p)) (c.args.left + 1))
-      (c.reach.ensures p has ∙ ap (λ b. told b (same_res (site ends.0) (site p)) (c.args.left + 1) (steps_at c.loop-a.steps p)) c.leads_on.ensures
-        ∙ ap (told (leads_on c.args.self.now c.args.to.0 ends.1 c.args.left) (same_res (site ends.0) (site p)) (c.args.left + 1)) (c.loop-a.invariant p has))
+    (c.reach.ensures p has ∙ ap (λ b. told b (same_res (site ends.0) (site p)) (c.args.left + 1) (steps_at c.loop-a.steps p)) c.leads_on.ensures
+    ∙ ap (told (leads_on c.args.self.now c.args.to.0 ends.1 c.args.left) (same_res (site ends.0) (site p)) (c.args.left + 1)) (c.loop-a.invariant p has))
     ∙ both_ends c.args.wiring.now c.args.to.0 c.args.left c.loop-a.a-index (site p) ends.0 ends.1 c.args.self.now c.segments-a-items.ensures.wiring is (omega (arith, c.loop-a-test.true, ap (λ (xs : List (Place × Place)). length xs) c.segments-a-items.ensures.value))
-      (counted c.args.wiring.now ends.0 c.segments-a-items.ensures.wiring parts.near_there) (counted c.args.wiring.now ends.1 c.segments-a-items.ensures.wiring parts.far_there) c.requires.least
+    (counted c.args.wiring.now ends.0 c.segments-a-items.ensures.wiring parts.near_there) (counted c.args.wiring.now ends.1 c.segments-a-items.ensures.wiring parts.far_there) c.requires.least
     ∙ ap (λ n. so_far c.args.wiring.now c.args.to.0 c.args.left n (site p)) next
 
 pub loop-a-init : goal.loop-a-init

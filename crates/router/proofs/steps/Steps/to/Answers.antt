@@ -1,4 +1,3 @@
-use Rattle.std.proofs.Common.{◌≡◌}
 use Rattle.router.proofs.Rounds.{none_known}
 use Rattle.router.proofs.steps.Steps.to.Goals as goal
 
