@@ -7,6 +7,8 @@ pub mod laws;
 mod op;
 mod touched;
 pub mod worked;
+pub mod worked_causes;
+pub mod worked_steps;
 
 pub use contents::{Carry, Content, Entry, Rider};
 pub use kinds::{OpKind, Why};
