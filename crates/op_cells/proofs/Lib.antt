@@ -1,4 +1,5 @@
 pub mod Adjusting
+pub mod InOrder
 pub mod InTurn
 pub mod Legalities
 pub mod Mapped

@@ -8,6 +8,7 @@ mod durations;
 mod effects;
 mod ends;
 mod held;
+pub mod laws;
 mod legality;
 mod numbering;
 mod places;
