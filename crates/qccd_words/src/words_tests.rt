@@ -1,3 +1,5 @@
+//! Words with a reading, and words with none.
+
 use crate::words::{Command, MachineWord, request};
 use qccd_base::Mode;
 use qccd_machine::Preset;
@@ -15,20 +17,43 @@ fn words_of(alloc: Global, text: &str) -> Result<Vec<String>, AllocError> {
 
 #[test]
 fn reads_runs(rt: HostRuntime) -> Result<(), Fail> {
-    // The capacity and the circuit's name.
+    // The machine and the circuit's name.
     let table = [
-        ("run @single a", 16, "a"),
-        ("run @single:2 a", 2, "a"),
-        ("run @single:10 b.qasm", 10, "b.qasm"),
-        ("run @single:32 a", 32, "a"),
-        ("run @single ", 16, ""),
-        ("run @single --workers", 16, "--workers"),
+        (
+            "run @single a",
+            MachineWord::Preset(Preset::Single, 16),
+            "a",
+        ),
+        (
+            "run @single:2 a",
+            MachineWord::Preset(Preset::Single, 2),
+            "a",
+        ),
+        (
+            "run @single:10 b.qasm",
+            MachineWord::Preset(Preset::Single, 10),
+            "b.qasm",
+        ),
+        (
+            "run @single:32 a",
+            MachineWord::Preset(Preset::Single, 32),
+            "a",
+        ),
+        ("run @single ", MachineWord::Preset(Preset::Single, 16), ""),
+        (
+            "run @single --workers",
+            MachineWord::Preset(Preset::Single, 16),
+            "--workers",
+        ),
+        ("run @L6 a", MachineWord::Preset(Preset::L6, 16), "a"),
+        ("run @G2x3:4 a", MachineWord::Preset(Preset::G2x3, 4), "a"),
+        ("run m.toml a", MachineWord::File("m.toml"), "a"),
     ];
-    for (text, capacity, name) in table {
+    for (text, machine, circuit) in table {
         let words = words_of(rt.alloc(), text)?;
         let asked = Command::Run {
-            machine: MachineWord::Preset(Preset::Single, capacity),
-            circuit: name,
+            machine,
+            circuit,
             workers: 4,
             mode: Mode::IonSwap,
         };
@@ -46,7 +71,7 @@ fn reads_nothing_else(rt: HostRuntime) -> Result<(), Fail> {
         "run",
         "run @single",
         "run @L6:16",
-        "run @L6 a",
+        "run @L7 a",
         "run @L6:33 a",
         "run @single:1 a",
         "run @single:33 a",
@@ -58,7 +83,6 @@ fn reads_nothing_else(rt: HostRuntime) -> Result<(), Fail> {
         "run @single a b",
         "runs @single a",
         "exec @single p",
-        "run m.toml a",
     ];
     for text in table {
         let words = words_of(rt.alloc(), text)?;
