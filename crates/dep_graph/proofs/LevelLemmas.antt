@@ -88,17 +88,17 @@ reached_after : (earlier : List Levelled) (b : ItemData) → 0 < level_after ear
 reached_after [] b some = absurd (omega arith)
 reached_after (d ∷ earlier) b some = elim (cases_Bool (shares d.item b)) [
   | inl is ↦
-    let all : level_after (d ∷ earlier) b ≡ max (d.level + 1) (level_after earlier b) = rw is refl in
-    elim (cases_lt (d.level + 1) (level_after earlier b)) [
-      | inl less ↦
-        let r : ReachedEarlier earlier b (level_after earlier b) = reached_after earlier b (omega arith) in
-        record { k = suc r.k; e = r.e; there = r.there; share = r.share; level = omega (arith, all, r.level) }
-      | inr more ↦ record { k = 0; e = d; there = refl; share = is; level = omega (arith, all) }
-    ]
+      let all : level_after (d ∷ earlier) b ≡ max (d.level + 1) (level_after earlier b) = rw is refl in
+      elim (cases_lt (d.level + 1) (level_after earlier b)) [
+        | inl less ↦
+            let r : ReachedEarlier earlier b (level_after earlier b) = reached_after earlier b (omega arith) in
+            record { k = suc r.k; e = r.e; there = r.there; share = r.share; level = omega (arith, all, r.level) }
+        | inr more ↦ record { k = 0; e = d; there = refl; share = is; level = omega (arith, all) }
+      ]
   | inr not_d ↦
-    let all : level_after (d ∷ earlier) b ≡ level_after earlier b = rw not_d refl in
-    let r : ReachedEarlier earlier b (level_after earlier b) = reached_after earlier b (omega (arith, all)) in
-    record { k = suc r.k; e = r.e; there = r.there; share = r.share; level = omega (arith, all, r.level) }
+      let all : level_after (d ∷ earlier) b ≡ level_after earlier b = rw not_d refl in
+      let r : ReachedEarlier earlier b (level_after earlier b) = reached_after earlier b (omega (arith, all)) in
+      record { k = suc r.k; e = r.e; there = r.there; share = r.share; level = omega (arith, all, r.level) }
 ]
 
 reached_from : (earlier : List Levelled) (items : List ItemData) (j : ℕ) (b : ItemData) → slice_get items j ≡ Some b → 0 < get_or (levels_from earlier items) j 0
@@ -111,23 +111,23 @@ reached_from earlier (item ∷ items) (suc j) b is some =
     moved (reached_from (record { item = item; level = level_after earlier item } ∷ earlier) items j b is some)
   where
     moved : ReachedEarlier (record { item = item; level = level_after earlier item } ∷ earlier) b (get_or (levels_from earlier (item ∷ items)) (suc j) 0)
-      ⊎ ReachedLater (levels_from (record { item = item; level = level_after earlier item } ∷ earlier) items) items j b (get_or (levels_from earlier (item ∷ items)) (suc j) 0)
-      → ReachedEarlier earlier b (get_or (levels_from earlier (item ∷ items)) (suc j) 0) ⊎ ReachedLater (levels_from earlier (item ∷ items)) (item ∷ items) (suc j) b (get_or (levels_from earlier (item ∷ items)) (suc j) 0)
+        ⊎ ReachedLater (levels_from (record { item = item; level = level_after earlier item } ∷ earlier) items) items j b (get_or (levels_from earlier (item ∷ items)) (suc j) 0)
+        → ReachedEarlier earlier b (get_or (levels_from earlier (item ∷ items)) (suc j) 0) ⊎ ReachedLater (levels_from earlier (item ∷ items)) (item ∷ items) (suc j) b (get_or (levels_from earlier (item ∷ items)) (suc j) 0)
     moved (inr r) = inr (record { i = suc r.i; a = r.a; less = omega (arith, r.less); there = r.there; share = r.share; level = r.level })
     moved (inl r) = first r.k r.e r.there r.share r.level
       where
         first : (k : ℕ) (e : Levelled) → slice_get (record { item = item; level = level_after earlier item } ∷ earlier) k ≡ Some e → shares e.item b ≡ true → e.level + 1 ≡ get_or (levels_from earlier (item ∷ items)) (suc j) 0
-          → ReachedEarlier earlier b (get_or (levels_from earlier (item ∷ items)) (suc j) 0) ⊎ ReachedLater (levels_from earlier (item ∷ items)) (item ∷ items) (suc j) b (get_or (levels_from earlier (item ∷ items)) (suc j) 0)
+            → ReachedEarlier earlier b (get_or (levels_from earlier (item ∷ items)) (suc j) 0) ⊎ ReachedLater (levels_from earlier (item ∷ items)) (item ∷ items) (suc j) b (get_or (levels_from earlier (item ∷ items)) (suc j) 0)
         first zero e there share level =
-          let same : record { item = item; level = level_after earlier item } ≡ e = same_Some (record { item = item; level = level_after earlier item }) e there in
-          inr (record {
-            i = 0;
-            a = item;
-            less = omega arith;
-            there = refl;
-            share = subst (λ (x : Levelled). shares x.item b ≡ true) (sym same) share;
-            level = subst (λ (x : Levelled). x.level + 1 ≡ get_or (levels_from earlier (item ∷ items)) (suc j) 0) (sym same) level;
-          })
+            let same : record { item = item; level = level_after earlier item } ≡ e = same_Some (record { item = item; level = level_after earlier item }) e there in
+            inr (record {
+              i = 0;
+              a = item;
+              less = omega arith;
+              there = refl;
+              share = subst (λ (x : Levelled). shares x.item b ≡ true) (sym same) share;
+              level = subst (λ (x : Levelled). x.level + 1 ≡ get_or (levels_from earlier (item ∷ items)) (suc j) 0) (sym same) level;
+            })
         first (suc k) e there share level = inl (record { k = k; e = e; there = there; share = share; level = level })
 
 pub levels-reached : (items : List ItemData) (j : ℕ) (b : ItemData) → slice_get items j ≡ Some b → 0 < get_or (levels items) j 0
@@ -135,7 +135,7 @@ pub levels-reached : (items : List ItemData) (j : ℕ) (b : ItemData) → slice_
 levels-reached items j b is some = given (reached_from [] items j b is some)
   where
     given : ReachedEarlier [] b (get_or (levels items) j 0) ⊎ ReachedLater (levels items) items j b (get_or (levels items) j 0)
-      → (i : ℕ) × (a : ItemData) × (i < j) × (slice_get items i ≡ Some a) × (shares a b ≡ true) × (get_or (levels items) i 0 + 1 ≡ get_or (levels items) j 0)
+        → (i : ℕ) × (a : ItemData) × (i < j) × (slice_get items i ≡ Some a) × (shares a b ≡ true) × (get_or (levels items) i 0 + 1 ≡ get_or (levels items) j 0)
     given (inl r) = absurd (none-some r.e r.there)
     given (inr r) = (r.i, r.a, r.less, r.there, r.share, r.level)
 
@@ -171,7 +171,7 @@ Found-next items found rows new i level item so_far within here is shows =
     let is_level : level_after so_far.earlier item ≡ level = sym (before-level so_far.earlier item) ∙ sym is in
     let cut : drop i items ≡ item ∷ drop (i + 1) items = drop_more items i item within ∙ ap (λ (x : ItemData). x ∷ drop (i + 1) items) (sym here) in
     let step : levels_from so_far.earlier (drop i items) ≡ level ∷ levels_from (record { item = item; level = level } ∷ so_far.earlier) (drop (i + 1) items) =
-      ap (λ (xs : List ItemData). levels_from so_far.earlier xs) cut ∙ ap (λ (n : ℕ). n ∷ levels_from (record { item = item; level = n } ∷ so_far.earlier) (drop (i + 1) items)) is_level in
+    ap (λ (xs : List ItemData). levels_from so_far.earlier xs) cut ∙ ap (λ (n : ℕ). n ∷ levels_from (record { item = item; level = n } ∷ so_far.earlier) (drop (i + 1) items)) is_level in
     record {
       earlier = record { item = item; level = level } ∷ so_far.earlier;
       levels = so_far.levels ∙ ap (λ (xs : List ℕ). found ++ xs) step ∙ sym (append_assoc found (level ∷ []) (levels_from (record { item = item; level = level } ∷ so_far.earlier) (drop (i + 1) items)));
