@@ -1,1 +1,5 @@
 pub mod LevelLemmas
+pub mod DirectLemmas
+pub mod Linked
+pub mod Free
+pub mod Taking
