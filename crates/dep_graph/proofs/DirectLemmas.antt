@@ -1,12 +1,11 @@
 -- Which items stand directly before an item, and that these decide for all that share with it.
-use Rattle.std.proofs.Common.{◌≡◌, ℕ, zero, suc, ◌+◌, ◌-◌, ◌<◌, ◌≤◌, ◌==◌, Bool, true, false, cond, eqb, ltb, leb, ◌||◌, ◌&&◌, not, List, [], ◌∷◌, ◌++◌, length, get_or, take, refl, sym, ◌∙◌, ap, arith, Option, Some, None, inl, inr, subst, ◌⊎◌}
-use Rattle.std.specs.Prelude.{slice_get, count_by}
-use Rattle.std.specs.List.{list_any, range_with_len, All}
-use Rattle.std.proofs.lemmas.Bool.{cases_Bool, cases_eq, cases_lt, eqb-true, eq-eqb, ne_eqb, le-leb, lt-leb, leb-true, and_parts, or_right, or_left, not-true, false≢true, false_from_ne_true}
-use Rattle.std.proofs.lemmas.Option.{slice_get_past, slice_get_within, slice_get_cases}
+use Rattle.std.proofs.Common.{◌≡◌, ℕ, zero, suc, ◌+◌, ◌-◌, ◌<◌, ◌≤◌, ◌==◌, Bool, true, false, cond, eqb, leb, ◌||◌, ◌&&◌, not, List, [], ◌∷◌, length, refl, sym, ◌∙◌, ap, arith, Option, Some, None, inl, inr, subst}
+use Rattle.std.specs.Prelude.{slice_get}
+use Rattle.std.specs.List.{list_any, range_with_len}
+use Rattle.std.proofs.lemmas.Bool.{cases_Bool, cases_eq, cases_lt, eq-eqb, ne_eqb, le-leb, lt-leb, leb-true, and_parts, or_right, or_left, false≢true}
+use Rattle.std.proofs.lemmas.Option.{slice_get_past}
 use Rattle.qccd_circuit.specs.Item.{ItemData}
 use Rattle.qccd_circuit.specs.Operands.{operands_of, uses}
-use Rattle.qccd_circuit.specs.Sharing.{shares}
 use Rattle.qccd_circuit.proofs.Shared.{shares-operands}
 use Rattle.dep_graph.specs.Direct.{used_by, uses_at, operands_in, share_both, shares_at, is_first, directly_before}
 

@@ -1,24 +1,23 @@
 -- How the links grow by those of one item.
-use Rattle.std.proofs.Common.{◌≡◌, ℕ, zero, suc, ◌+◌, ◌-◌, ◌<◌, ◌≤◌, ◌==◌, Bool, true, false, cond, eqb, ltb, leb, ◌||◌, ◌&&◌, not, List, [], ◌∷◌, ◌++◌, length, get_or, take, drop, refl, sym, ◌∙◌, ap, arith, Option, Some, None, inl, inr, subst, length-append}
+use Rattle.std.proofs.Common.{◌≡◌, ℕ, suc, ◌+◌, ◌-◌, ◌<◌, ◌≤◌, ◌==◌, Bool, true, false, cond, eqb, ◌||◌, List, [], ◌∷◌, ◌++◌, length, get_or, take, drop, refl, sym, ◌∙◌, ap, arith, Option, Some, None, inl, inr, subst, length-append}
 use Rattle.std.specs.Prelude.{slice_get, slice_range, count_by, replicate}
 use Rattle.std.specs.Option.{IfSome}
 use Rattle.std.proofs.Math.ListN.{set}
 use Rattle.std.proofs.lemmas.List.Sums.{count_by-le-length}
 use Rattle.std.proofs.lemmas.List.FromFn.{length-range_with_len}
 use Rattle.std.specs.List.{list_any, range_with_len, All}
-use Rattle.std.proofs.lemmas.Bool.{cases_Bool, cases_eq, cases_lt, eqb-true, eq-eqb, ne_eqb, or_right, or_left, false≢true}
+use Rattle.std.proofs.lemmas.Bool.{cases_Bool, cases_eq, eqb-true, eq-eqb, ne_eqb, or_right, or_left}
 use Rattle.std.proofs.lemmas.List.{length-drop, append_assoc, append-nil, length-set, length-replicate, get_or-replicate, get_or-set_same, get_or-set_other, take_all, take-append-le, drop-append-le, drop_at}
 use Rattle.std.proofs.lemmas.List.Folds.{list_any_more}
-use Rattle.std.proofs.lemmas.Option.{slice_get_within, same_Some}
+use Rattle.std.proofs.lemmas.Option.{slice_get_within}
 use Rattle.qccd_circuit.specs.Circuit.{IsWithin}
 use Rattle.qccd_circuit.specs.Item.{ItemData}
 use Rattle.qccd_circuit.specs.Operands.{operands_of, uses}
-use Rattle.qccd_circuit.proofs.MarkLemmas.{operand_below}
 use Rattle.qccd_circuit.proofs.Shared.{operands_below}
 use Rattle.qccd_circuit.proofs.Rising.{count_by-cons, times}
-use Rattle.dep_graph.specs.Direct.{used_by, uses_at, operands_in, is_first, directly_before}
-use Rattle.dep_graph.specs.Graph.{AreLinked, AreCounted, links_of}
-use Rattle.dep_graph.specs.Linking.{LinkingData, LinksFrom, HasPlace, is_some_at, linked_to, linked_where, met}
+use Rattle.dep_graph.specs.Direct.{used_by, operands_in, is_first, directly_before}
+use Rattle.dep_graph.specs.Graph.{links_of}
+use Rattle.dep_graph.specs.Linking.{LinkingData, LinksFrom, HasPlace, is_some_at, linked_where, met}
 use Rattle.dep_graph.proofs.DirectLemmas.{first-step, first-end, First, first_is, any_common}
 
 pub LinksFrom-none : (items : List ItemData) (n : ℕ) → length items ≡ n

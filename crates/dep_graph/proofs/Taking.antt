@@ -1,16 +1,16 @@
 -- What taking an item that is ready does to the counts and to the list.
-use Rattle.std.proofs.Common.{◌≡◌, ℕ, zero, suc, ◌+◌, ◌-◌, ◌<◌, ◌≤◌, ◌==◌, Bool, true, false, cond, eqb, ltb, leb, ◌||◌, ◌&&◌, not, List, [], ◌∷◌, ◌++◌, length, get_or, take, drop, refl, sym, ◌∙◌, ap, arith, inl, inr, subst, ◌⊎◌}
+use Rattle.std.proofs.Common.{◌≡◌, ℕ, zero, suc, ◌+◌, ◌-◌, ◌<◌, ◌≤◌, Bool, true, false, cond, eqb, ltb, ◌||◌, ◌&&◌, not, List, [], ◌∷◌, ◌++◌, length, get_or, take, refl, sym, ◌∙◌, ap, arith, inl, inr, subst}
 use Rattle.std.specs.Prelude.{count_by, filter, replicate}
 use Rattle.std.proofs.Math.ListN.{set}
-use Rattle.std.specs.List.{list_any, list_all, range_with_len, prefix_len, insert, remove}
-use Rattle.std.proofs.lemmas.Bool.{cases_Bool, cases_eq, cases_lt, lt-ltb, le-ltb, ltb-true, eqb-true, eq-eqb, ne_eqb, and_parts, and_from, or_left, or_right, or_cases, not-true, not-false, not_from_false, not_from_true, false≢true, false_from_ne_true}
-use Rattle.std.proofs.lemmas.List.{length-set, length-replicate, get_or-replicate, get_or-set_same, get_or-set_other, take_all, take_more, get_or_past}
+use Rattle.std.specs.List.{list_all, range_with_len, prefix_len, insert, remove}
+use Rattle.std.proofs.lemmas.Bool.{cases_Bool, cases_eq, cases_lt, lt-ltb, le-ltb, ltb-true, eqb-true, eq-eqb, ne_eqb, and_parts, or_left, or_right, not-true, not_from_false, false≢true, false_from_ne_true}
+use Rattle.std.proofs.lemmas.List.{length-set, length-replicate, get_or-replicate, get_or-set_same, get_or-set_other, take_all, get_or_past}
 use Rattle.std.proofs.lemmas.List.Sums.{length-filter, count_by-le-length, sum_by_more, sum_by-take-le}
 use Rattle.std.proofs.lemmas.List.FromFn.{length-range_with_len}
 use Rattle.qccd_circuit.specs.Item.{ItemData}
-use Rattle.qccd_circuit.proofs.Rising.{count_by-cons, times, once_among}
-use Rattle.dep_graph.specs.Direct.{uses_at, shares_at, directly_before}
-use Rattle.dep_graph.specs.Graph.{GraphData, AreLinked, AreCounted, IsGraphOf, links_of}
+use Rattle.qccd_circuit.proofs.Rising.{count_by-cons, times}
+use Rattle.dep_graph.specs.Direct.{shares_at, directly_before}
+use Rattle.dep_graph.specs.Graph.{GraphData, IsGraphOf, links_of}
 use Rattle.dep_graph.specs.Ready.{ReadyData, Follows, MayTake, is_taken, is_ready, is_free, ready_items, free_numbers, waiting}
 use Rattle.dep_graph.proofs.DirectLemmas.{Directly, directly_is, Shared, shared_of, shares_by, Latest, latest_before}
 use Rattle.dep_graph.proofs.Free.{filter_same, enlisted, Delisted, delisted, count_but, count_none, none_counted, all_in_range, in_range_all, filter_more}

@@ -1,5 +1,5 @@
 -- Which items stand directly before an item.
-use Rattle.std.specs.Prelude.{ℕ, ◌+◌, ◌-◌, Bool, false, ◌&&◌, ◌==◌, not, nat_le, Option, Some, None, List, [], slice_get}
+use Rattle.std.specs.Prelude.{ℕ, ◌+◌, ◌-◌, Bool, false, ◌&&◌, not, nat_le, Option, Some, None, List, [], slice_get}
 use Rattle.std.specs.List.{list_any, range_with_len}
 use Rattle.qccd_circuit.specs.Item.{ItemData}
 use Rattle.qccd_circuit.specs.Operands.{operands_of, uses}

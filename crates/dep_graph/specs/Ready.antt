@@ -1,5 +1,5 @@
 -- Which items may be taken next.
-use Rattle.std.specs.Prelude.{◌≡◌, ℕ, ◌<◌, ◌≤◌, Bool, true, false, ◌&&◌, ◌||◌, ◌==◌, not, nat_lt, IsTrue, List, length, filter, get_or, count_by}
+use Rattle.std.specs.Prelude.{◌≡◌, ℕ, ◌<◌, ◌≤◌, Bool, true, false, ◌&&◌, ◌||◌, ◌==◌, not, nat_lt, List, length, filter, get_or, count_by}
 use Rattle.std.specs.List.{list_all, range_with_len}
 use Rattle.qccd_circuit.specs.Item.{ItemData}
 use Rattle.dep_graph.specs.Direct.{shares_at, directly_before}

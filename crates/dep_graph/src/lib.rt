@@ -10,3 +10,6 @@ mod ready;
 pub use graph::Graph;
 pub use level::levels;
 pub use ready::Ready;
+
+#[cfg(test)]
+mod tests;

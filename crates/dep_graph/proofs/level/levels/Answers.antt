@@ -1,14 +1,11 @@
-use Rattle.std.proofs.Common.{◌≡◌, ℕ, List, ◌++◌, ◌∷◌, [], ◌≤◌, ◌<◌, length, Some, arith, sym, ap, subst, map, ◌∙◌}
+use Rattle.std.proofs.Common.{◌≡◌, List, ◌≤◌, length, Some, arith, ap, map}
 use Rattle.std.specs.Prelude.{slice_get}
-use Rattle.std.proofs.lemmas.Grind.{common_steps}
 use Rattle.std.proofs.lemmas.Option.{slice_get_read}
 use Rattle.std.proofs.Common.{refl}
-use Rattle.qccd_circuit.specs.Circuit.{CircuitData, IsCircuit, IsWithin}
 use Rattle.qccd_circuit.specs.Item.{ItemData}
 use Rattle.qccd_circuit.specs.Marks.{mark_before}
 use Rattle.qccd_circuit.proofs.CircuitLemmas.{IsCircuit-within}
-use Rattle.dep_graph.specs.Levels.{Levelled}
-use Rattle.dep_graph.proofs.LevelLemmas.{Found, Found-level, Found-next, marked_by_level}
+use Rattle.dep_graph.proofs.LevelLemmas.{Found-level, Found-next, marked_by_level}
 use Rattle.dep_graph.proofs.level.levels.Goals as goal
 
 pub before-level-requires : goal.before-level-requires

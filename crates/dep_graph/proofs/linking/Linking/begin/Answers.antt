@@ -1,6 +1,5 @@
-use Rattle.std.proofs.Common.{◌≡◌, ◌+◌, ℕ, List, length}
+use Rattle.std.proofs.Common.{◌≡◌, ◌+◌}
 use Rattle.std.specs.Prelude.{replicate}
-use Rattle.qccd_circuit.specs.Item.{ItemData}
 use Rattle.dep_graph.proofs.Linked.{LinksFrom-none}
 use Rattle.dep_graph.proofs.linking.Linking.begin.Goals as goal
 

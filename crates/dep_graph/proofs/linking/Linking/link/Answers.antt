@@ -1,8 +1,6 @@
-use Rattle.std.proofs.Common.{◌≡◌, ◌+◌, ◌<◌, ℕ, List, length, Some, arith, sym, refl, subst, get_or, ap, ◌∙◌}
+use Rattle.std.proofs.Common.{◌≡◌, ◌+◌, ◌<◌, ℕ, List, length, arith, sym, refl, subst, get_or, ap, ◌∙◌}
 use Rattle.std.proofs.Math.ListN.{set}
-use Rattle.std.specs.Prelude.{slice_get}
 use Rattle.std.proofs.lemmas.Option.{slice_get_within}
-use Rattle.qccd_circuit.specs.Item.{ItemData}
 use Rattle.qccd_circuit.specs.Operands.{operands_of}
 use Rattle.qccd_circuit.proofs.MarkLemmas.{operand_below}
 use Rattle.dep_graph.specs.Linking.{LinkingData, LinksFrom, data_of}
