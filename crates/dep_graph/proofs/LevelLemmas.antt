@@ -6,7 +6,7 @@ use Rattle.std.proofs.lemmas.Bool.{cases_Bool, cases_lt}
 use Rattle.std.proofs.lemmas.Option.{same_Some, none-some}
 use Rattle.std.proofs.lemmas.List.{drop_more, append_assoc, append-nil, drop_all}
 use Rattle.qccd_circuit.specs.Item.{ItemData}
-use Rattle.qccd_circuit.specs.Marks.{Marked, Shows, mark_before}
+use Rattle.qccd_circuit.specs.Marks.{Marked, AreMarks, mark_before}
 use Rattle.qccd_circuit.specs.Sharing.{shares}
 use Rattle.dep_graph.specs.Levels.{Levelled, level_after, levels_from, levels}
 
@@ -153,10 +153,10 @@ before-level (e ∷ earlier) item =
 pub record Found (items : List ItemData) (found rows : List ℕ) (i : ℕ) : Type 0 where
   pub earlier : List Levelled
   pub levels : levels_from [] items ≡ found ++ levels_from earlier (drop i items)
-  pub marks : Shows (map marked_by_level earlier) rows
+  pub marks : AreMarks (map marked_by_level earlier) rows
   pub small : AllByRecursion (λ (e : Levelled). e.level < i) earlier
 
-pub Found-none : (items : List ItemData) (rows : List ℕ) → Shows [] rows → Found items [] rows 0
+pub Found-none : (items : List ItemData) (rows : List ℕ) → AreMarks [] rows → Found items [] rows 0
 Found-none items rows shows = record { earlier = []; levels = refl; marks = shows; small = tt }
 
 pub Found-level : (items : List ItemData) (found rows : List ℕ) (i : ℕ) (item : ItemData) → (so_far : Found items found rows i) → mark_before (map marked_by_level so_far.earlier) item ≤ i
@@ -164,7 +164,7 @@ Found-level items found rows i item so_far = omega (arith, before-level so_far.e
 
 pub Found-next :
     (items : List ItemData) (found rows new : List ℕ) (i level : ℕ) (item : ItemData) → (so_far : Found items found rows i) → i < length items → item ≡ get_or items i item
-    → level ≡ mark_before (map marked_by_level so_far.earlier) item → Shows (record { item = item; mark = level + 1 } ∷ map marked_by_level so_far.earlier) new
+    → level ≡ mark_before (map marked_by_level so_far.earlier) item → AreMarks (record { item = item; mark = level + 1 } ∷ map marked_by_level so_far.earlier) new
     → Found items (found ++ level ∷ []) new (i + 1)
 Found-next items found rows new i level item so_far within here is shows =
     let is_level : level_after so_far.earlier item ≡ level = sym (before-level so_far.earlier item) ∙ sym is in

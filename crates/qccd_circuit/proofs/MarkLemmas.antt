@@ -7,7 +7,7 @@ use Rattle.std.proofs.lemmas.List.{map_more, length-replicate, get_or-replicate}
 use Rattle.qccd_base.specs.Greatest.{greatest}
 use Rattle.qccd_circuit.specs.Circuit.{IsWithin}
 use Rattle.qccd_circuit.specs.Item.{ItemData}
-use Rattle.qccd_circuit.specs.Marks.{Marked, Shows, mark_on, mark_before}
+use Rattle.qccd_circuit.specs.Marks.{Marked, AreMarks, mark_on, mark_before}
 use Rattle.qccd_circuit.specs.Operands.{operands_of, uses}
 use Rattle.qccd_circuit.specs.Sharing.{shares}
 use Rattle.qccd_circuit.proofs.Shared.{shares-operands, shares-sym, operands_below}
@@ -24,7 +24,7 @@ greatest_more f os k within =
 all_rest : (x : ℕ) (xs : List ℕ) (n : ℕ) → All (λ o. o < n) (x ∷ xs) → All (λ o. o < n) xs
 all_rest x xs n all = λ k d h. all (suc k) d (omega arith)
 
-greatest_rows : (marked : List Marked) (rows os : List ℕ) → Shows marked rows → All (λ o. o < 512) os → greatest (map (λ o. get_or rows o 0) os) ≡ greatest (map (mark_on marked) os)
+greatest_rows : (marked : List Marked) (rows os : List ℕ) → AreMarks marked rows → All (λ o. o < 512) os → greatest (map (λ o. get_or rows o 0) os) ≡ greatest (map (mark_on marked) os)
 greatest_rows marked rows [] shows all = refl
 greatest_rows marked rows (o ∷ os) shows all =
     let small : o < 512 = all 0 0 (omega arith) in
@@ -69,7 +69,7 @@ marks_of_operands (e ∷ marked) d =
     ∙ sym (before_with e marked d)
 
 -- the greatest mark on an item's operands is that of the items that share with it
-pub greatest-mark_before : (marked : List Marked) (rows : List ℕ) (d : ItemData) → IsWithin 256 256 d → Shows marked rows → greatest (map (λ o. get_or rows o 0) (operands_of d)) ≡ mark_before marked d
+pub greatest-mark_before : (marked : List Marked) (rows : List ℕ) (d : ItemData) → IsWithin 256 256 d → AreMarks marked rows → greatest (map (λ o. get_or rows o 0) (operands_of d)) ≡ mark_before marked d
 greatest-mark_before marked rows d within shows = greatest_rows marked rows (operands_of d) shows (operands_below d within) ∙ marks_of_operands marked d
 
 -- the mark on an operand of an item is not above that of all items that share with it
@@ -83,9 +83,9 @@ le_greatest f (n ∷ os) o has = elim (cases_Bool (eqb n o)) [
 pub operand_below : (d : ItemData) (k : ℕ) → IsWithin 256 256 d → k < length (operands_of d) → get_or (operands_of d) k 0 < 512
 operand_below d k within h = operands_below d within k 0 h
 
-pub Shows-put : (marked : List Marked) (old new : List ℕ) (d : ItemData) (mark : ℕ) → Shows marked old → mark_before marked d ≤ mark → length new ≡ 512
-    → ((o : ℕ) → o < 512 → get_or new o 0 ≡ cond (uses d o) mark (get_or old o 0)) → Shows (record { item = d; mark = mark } ∷ marked) new
-Shows-put marked old new d mark shows low all rows = record { all = all; row = put }
+pub AreMarks-put : (marked : List Marked) (old new : List ℕ) (d : ItemData) (mark : ℕ) → AreMarks marked old → mark_before marked d ≤ mark → length new ≡ 512
+    → ((o : ℕ) → o < 512 → get_or new o 0 ≡ cond (uses d o) mark (get_or old o 0)) → AreMarks (record { item = d; mark = mark } ∷ marked) new
+AreMarks-put marked old new d mark shows low all rows = record { all = all; row = put }
   where
     put : (o : ℕ) → o < 512 → get_or new o 0 ≡ mark_on (record { item = d; mark = mark } ∷ marked) o
     put o small =
@@ -101,5 +101,5 @@ Shows-put marked old new d mark shows low all rows = record { all = all; row = p
         ]
 
 -- no item has a mark
-pub Shows-none : Shows [] (replicate 512 0)
-Shows-none = record { all = length-replicate {A = ℕ} 512 0; row = λ o small. get_or-replicate {A = ℕ} 512 o 0 0 small }
+pub AreMarks-none : AreMarks [] (replicate 512 0)
+AreMarks-none = record { all = length-replicate {A = ℕ} 512 0; row = λ o small. get_or-replicate {A = ℕ} 512 o 0 0 small }

@@ -2,6 +2,7 @@
 -- marks before it.
 use Rattle.std.proofs.Common.{◌≡◌, ℕ, zero, suc, ◌+◌, ◌<◌, ◌≤◌, ◌==◌, max, Bool, true, false, cond, eqb, ltb, leb, ◌&&◌, not, List, [], ◌∷◌, length, get_or, drop, Option, Some, None, refl, sym, ◌∙◌, ap, arith, inl, inr, ◌⊎◌, subst}
 use Rattle.std.specs.Prelude.{count_by, slice_get, replicate}
+use Rattle.std.proofs.Math.Bool.{and-false}
 use Rattle.std.proofs.Math.ListN.{set}
 use Rattle.std.specs.List.{list_any}
 use Rattle.std.proofs.lemmas.Bool.{cases_Bool, cases_lt, cases_eq, eqb-true, eq-eqb, ne_eqb, lt-ltb, le-ltb, leb-true, le-leb, lt-leb, and_parts, and_from, or_right, or_cases, false_from_ne_true, not-true, false≢true}
@@ -10,7 +11,7 @@ use Rattle.std.proofs.lemmas.List.{length-replicate, get_or-replicate, length-se
 use Rattle.std.proofs.lemmas.List.Sums.{sum_by-cons}
 use Rattle.std.proofs.lemmas.Option.{slice_get_within, slice_get_past, slice_get_cases, same_Some}
 use Rattle.qccd_circuit.specs.Item.{ItemData}
-use Rattle.qccd_circuit.specs.Marks.{Marked, Shows, mark_before}
+use Rattle.qccd_circuit.specs.Marks.{Marked, AreMarks, mark_before}
 use Rattle.qccd_circuit.specs.Order.{SameOrder, stands_before}
 use Rattle.qccd_circuit.specs.Sharing.{shares}
 use Rattle.qccd_circuit.proofs.Shared.{shares-sym}
@@ -334,9 +335,9 @@ pub record Placed (items : List ItemData) (set_values : List Bool) (rows v : Lis
   pub rest : rises items [] v ≡ rises items done (drop p v)
   pub size : length set_values ≡ length items
   pub listed : (k : ℕ) → k < length items → get_or set_values k false ≡ list_any (λ n. n == k) done
-  pub marks : Shows (marked_of items done) rows
+  pub marks : AreMarks (marked_of items done) rows
 
-pub Placed-none : (items : List ItemData) (rows v : List ℕ) → Shows [] rows → Placed items (replicate (length items) false) rows v 0
+pub Placed-none : (items : List ItemData) (rows v : List ℕ) → AreMarks [] rows → Placed items (replicate (length items) false) rows v 0
 Placed-none items rows v shows = record {
   done = [];
   rest = refl;
@@ -354,7 +355,7 @@ next_of items done v p n within is =
 pub Placed-next :
     (items : List ItemData) (set_values : List Bool) (rows new v : List ℕ) (p n : ℕ) (d : ItemData) → p < length v → n ≡ get_or v p 0
     → (placed : Placed items set_values rows v p) → slice_get items n ≡ Some d → get_or set_values n false ≡ false → mark_before (marked_of items placed.done) d ≤ n
-    → Shows (record { item = d; mark = n + 1 } ∷ marked_of items placed.done) new → Placed items (set set_values n true) new v (p + 1)
+    → AreMarks (record { item = d; mark = n + 1 } ∷ marked_of items placed.done) new → Placed items (set set_values n true) new v (p + 1)
 Placed-next items set_values rows new v p n d within is placed there unset low shows =
     let small : n < length items = slice_get_within items n d there in
     let fresh : list_any (λ m. m == n) placed.done ≡ false = sym (placed.listed n small) ∙ unset in
@@ -393,11 +394,7 @@ set_fails items set_values rows v p n placed within is = either (slice_get items
 
 pub mark_fails : (items : List ItemData) (marked : List Marked) (listed : List ℕ) (n : ℕ) (d : ItemData) → slice_get items n ≡ Some d → n < mark_before marked d
     → may_follow (slice_get items n) marked listed n ≡ false
-mark_fails items marked listed n d there high = rw (there, lt-leb (mark_before marked d) n high) (never (not (list_any (λ m. m == n) listed)))
-  where
-    never : (b : Bool) → (b && false) ≡ false
-    never true = refl
-    never false = refl
+mark_fails items marked listed n d there high = rw (there, lt-leb (mark_before marked d) n high) (and-false (not (list_any (λ m. m == n) listed)))
 
 pub Placed-all : (items : List ItemData) (set_values : List Bool) (rows v : List ℕ) (p : ℕ) → Placed items set_values rows v p → length v ≤ p → length v ≡ length items → SameOrder items v
 Placed-all items set_values rows v p placed past size =

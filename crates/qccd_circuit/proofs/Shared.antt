@@ -1,5 +1,6 @@
 -- Two items share exactly where they have an operand in common.
 use Rattle.std.proofs.Common.{◌≡◌, ℕ, ◌+◌, ◌*◌, ◌<◌, ◌==◌, Bool, true, false, eqb, ◌||◌, List, [], ◌∷◌, map, get_or, refl, sym, ◌∙◌, ap, arith}
+use Rattle.std.proofs.Math.Bool.{or-false}
 use Rattle.std.specs.List.{list_any, All}
 use Rattle.std.proofs.lemmas.Bool.Decides.{nat_tests}
 use Rattle.std.proofs.lemmas.List.Folds.{list_any-append}
@@ -37,14 +38,10 @@ bit_among_bits (c ∷ bs) b =
     let here : eqb (2 * c.0 + 1) (2 * b.0 + 1) ≡ eqb c.0 b.0 = grind (arith, nat_tests) in
     rw (here, rest) refl
 
-or_nothing : (b : Bool) → (b || false) ≡ b
-or_nothing true = refl
-or_nothing false = refl
-
 uses_qubit : (d : ItemData) (q : Qubit) → uses d (2 * q.0) ≡ has_qubit d.qubits q
 uses_qubit d q =
     list_any-append (λ n. n == 2 * q.0) (map (λ (r : Qubit). 2 * r.0) d.qubits) (map (λ (b : Bit). 2 * b.0 + 1) (bits_of d))
-    ∙ rw (qubit_among_qubits d.qubits q, qubit_among_bits (bits_of d) q.0) (or_nothing (has_qubit d.qubits q))
+    ∙ rw (qubit_among_qubits d.qubits q, qubit_among_bits (bits_of d) q.0) (or-false (has_qubit d.qubits q))
 
 uses_bit : (d : ItemData) (b : Bit) → uses d (2 * b.0 + 1) ≡ has_bit (bits_of d) b
 uses_bit d b =

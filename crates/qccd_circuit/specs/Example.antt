@@ -72,3 +72,8 @@ h_under q first count = record (h_on q) { cond = bits_are_one first count }
 -- two gates on two qubits, and then one on both
 abbrev pub three_gates : List ItemData
 three_gates = h_on 0 ∷ h_on 1 ∷ cx_on 0 1 ∷ []
+
+-- a measurement, a gate whose condition reads its bit, a barrier over that gate's qubit and another, a gate on
+-- the other, and a gate that shares with none
+abbrev pub five_items : List ItemData
+five_items = measure_into 0 1 ∷ h_under 1 0 2 ∷ barrier_over (qubit 1 ∷ qubit 2 ∷ []) ∷ h_on 2 ∷ h_on 3 ∷ []

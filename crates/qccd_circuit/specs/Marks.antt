@@ -19,6 +19,6 @@ abbrev pub mark_before : List Marked → ItemData → ℕ
 mark_before marked d = greatest (map (λ e. e.mark) (filter (λ e. shares e.item d) marked))
 
 -- the rows of a table are the marks on the operands
-pub record Shows (marked : List Marked) (rows : List ℕ) : Type 0 where
+pub record AreMarks (marked : List Marked) (rows : List ℕ) : Type 0 where
   pub all : length rows ≡ 512
   pub row : (o : ℕ) → o < 512 → get_or rows o 0 ≡ mark_on marked o

@@ -2,7 +2,7 @@
 
 ghost use Rattle.std.specs.Prelude.{◌≡◌, ◌≤◌, ◌∷◌, ℕ, List, [], length, get_or};
 ghost use Rattle.qccd_circuit.specs.Circuit.{IsWithin};
-ghost use Rattle.qccd_circuit.specs.Marks.{Marked, Shows, mark_before};
+ghost use Rattle.qccd_circuit.specs.Marks.{Marked, AreMarks, mark_before};
 
 use crate::items::Item;
 use std::marker::Model;
@@ -27,7 +27,7 @@ impl Model for Marks {
 impl Marks {
     /// No item has a mark yet.
     pub fn none() -> Marks
-        ensures { Shows [] result }
+        ensures { AreMarks [] result }
     {
         Marks { rows: [0; ROWS] }
     }
@@ -35,7 +35,7 @@ impl Marks {
     /// The greatest mark of the items that share with this one, and 0 where none does.
     pub fn before(&self, item: &Item) -> u32
         requires within { IsWithin 256 256 item.now }
-        ensures { (marked : List Marked) → Shows marked self.now → result ≡ mark_before marked item.now }
+        ensures { (marked : List Marked) → AreMarks marked self.now → result ≡ mark_before marked item.now }
     {
         let mut greatest = 0;
         for k in 0..item.operand_count() {
@@ -47,8 +47,8 @@ impl Marks {
     /// Gives the item a mark that is not below those of the items that share with it.
     pub fn put(&mut self, item: &Item, mark: u32)
         requires within { IsWithin 256 256 item.now }
-        ensures { (marked : List Marked) → Shows marked self.old → mark_before marked item.now ≤ mark
-            → Shows (record { item = item.now; mark = mark } ∷ marked) self.new }
+        ensures { (marked : List Marked) → AreMarks marked self.old → mark_before marked item.now ≤ mark
+            → AreMarks (record { item = item.now; mark = mark } ∷ marked) self.new }
     {
         for k in 0..item.operand_count() {
             self.rows[item.operand(k)] = mark;

@@ -93,6 +93,26 @@ fn three_lists(rt: HostRuntime) -> Result<(), Fail> {
 }
 
 #[test]
+fn measurements_into_one_bit(rt: HostRuntime) -> Result<(), Fail> {
+    let alloc = rt.alloc();
+    let mut circuit = Circuit::begin(alloc, 3, 2);
+    for (qubit, bit) in [(0, 0), (1, 0), (2, 1)] {
+        if let Some(item) = made(
+            alloc,
+            ItemKind::Measure,
+            b"measure",
+            &[Qubit(qubit)],
+            &[Bit(bit)],
+        )? {
+            add_copy(&mut circuit, &item)?;
+        }
+    }
+    assert!(rt; same_order(alloc, &circuit, &[2, 0, 1])?);
+    assert!(rt; !same_order(alloc, &circuit, &[1, 0, 2])?);
+    Ok(())
+}
+
+#[test]
 fn the_largest_list(rt: HostRuntime) -> Result<(), Fail> {
     let alloc = rt.alloc();
     let mut on = Vec::new(alloc);

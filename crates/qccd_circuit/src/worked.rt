@@ -1,7 +1,7 @@
 //! Worked examples of what the definitions say. Each function does nothing: its contract is the example.
 
 ghost use Rattle.std.specs.Prelude.{◌≡◌, ◌∷◌, [], IsTrue, codes, false, replicate};
-ghost use Rattle.qccd_circuit.specs.Example.{barrier_over, bits_are_one, cx_on, h_on, h_under, measure_into, reset_of, three_gates};
+ghost use Rattle.qccd_circuit.specs.Example.{barrier_over, bits_are_one, cx_on, five_items, h_on, h_under, measure_into, reset_of, three_gates};
 ghost use Rattle.qccd_circuit.specs.Item.{AreAngles, Fits, IsCond, IsName};
 ghost use Rattle.qccd_circuit.specs.Order.{SameOrder};
 ghost use Rattle.qccd_circuit.specs.Sharing.{shares};
@@ -116,4 +116,13 @@ pub fn sharing_gates_do_not()
 pub fn each_gate_comes_once()
     ensures left_out { SameOrder three_gates (0 ∷ 1 ∷ []) → ⊥ }
     ensures twice { SameOrder three_gates (0 ∷ 1 ∷ 2 ∷ 2 ∷ []) → ⊥ }
+    ensures instead { SameOrder three_gates (0 ∷ 0 ∷ 2 ∷ []) → ⊥ }
+{}
+
+/// A gate that shares with none may come at any place. A gate under a bit may not come before the measurement
+/// into that bit, and no gate may pass a barrier over its qubit.
+pub fn bits_and_barriers_keep_their_order()
+    ensures apart { SameOrder five_items (4 ∷ 0 ∷ 1 ∷ 2 ∷ 3 ∷ []) }
+    ensures bit { SameOrder five_items (1 ∷ 0 ∷ 2 ∷ 3 ∷ 4 ∷ []) → ⊥ }
+    ensures barrier { SameOrder five_items (0 ∷ 1 ∷ 3 ∷ 2 ∷ 4 ∷ []) → ⊥ }
 {}
