@@ -2,6 +2,7 @@
 use Rattle.std.proofs.Common.{◌≡◌, ℕ, suc, ◌+◌, ◌-◌, ◌<◌, ◌≤◌, ◌==◌, Bool, true, false, cond, eqb, ◌||◌, List, [], ◌∷◌, ◌++◌, length, get_or, take, drop, refl, sym, ◌∙◌, ap, arith, Option, Some, None, inl, inr, subst, length-append}
 use Rattle.std.specs.Prelude.{slice_get, slice_range, count_by, replicate}
 use Rattle.std.specs.Option.{IfSome}
+use Rattle.std.proofs.Math.Bool.{or-false}
 use Rattle.std.proofs.Math.ListN.{set}
 use Rattle.std.proofs.lemmas.List.Sums.{count_by-le-length}
 use Rattle.std.proofs.lemmas.List.FromFn.{length-range_with_len}
@@ -103,8 +104,7 @@ or_same false true h = sym (h refl)
 or_same false false h = refl
 
 or_nothing : (b c : Bool) → c ≡ false → (b || c) ≡ b
-or_nothing true c is = refl
-or_nothing false c is = is
+or_nothing b c is = rw is (or-false b)
 
 -- the operand's place in the table after it is met
 next_more : (next now : List (Option ℕ)) (os : List ℕ) (i k o : ℕ) → length now ≡ 512 → k < length os → o ≡ get_or os k 0 → o < 512

@@ -1,6 +1,7 @@
 -- What taking an item that is ready does to the counts and to the list.
 use Rattle.std.proofs.Common.{◌≡◌, ℕ, zero, suc, ◌+◌, ◌-◌, ◌<◌, ◌≤◌, Bool, true, false, cond, eqb, ltb, ◌||◌, ◌&&◌, not, List, [], ◌∷◌, ◌++◌, length, get_or, take, refl, sym, ◌∙◌, ap, arith, inl, inr, subst}
 use Rattle.std.specs.Prelude.{count_by, filter, replicate}
+use Rattle.std.proofs.Math.Bool.{and-false, or-false}
 use Rattle.std.proofs.Math.ListN.{set}
 use Rattle.std.specs.List.{list_all, range_with_len, prefix_len, insert, remove}
 use Rattle.std.proofs.lemmas.Bool.{cases_Bool, cases_eq, cases_lt, lt-ltb, le-ltb, ltb-true, eqb-true, eq-eqb, ne_eqb, and_parts, or_left, or_right, not-true, not_from_false, false≢true, false_from_ne_true}
@@ -58,12 +59,8 @@ none_waits items taken j before = count_none (λ k. not (is_taken taken k) && di
       | inl is ↦
           let direct : Directly items k j = directly_is items k j is in
           rw (before k direct.less direct.share) refl
-      | inr not_k ↦ rw not_k (never (not (is_taken taken k)))
+      | inr not_k ↦ rw not_k (and-false (not (is_taken taken k)))
     ]
-      where
-        never : (b : Bool) → (b && false) ≡ false
-        never true = refl
-        never false = refl
 
 waits_none : (items : List ItemData) (taken : List Bool) (j : ℕ) → Ordered items taken → waiting items taken j ≡ 0 → (i : ℕ) → i < j → shares_at items i j ≡ true → is_taken taken i ≡ true
 waits_none items taken j order none i less share =
@@ -186,22 +183,14 @@ waits_some n taken xs start waits list p j links lowering within is =
 list_short : (p : ℕ → Bool) (n j : ℕ) → j < n → p j ≡ false → length (filter p (range_with_len 0 n)) < n
 list_short p n j low fails =
     let one_more : count_by (λ k. p k || eqb k j) (range_with_len 0 n) ≡ 1 + count_by p (range_with_len 0 n) =
-    count_but (λ k. p k || eqb k j) p 0 n j (omega arith) (omega arith) fails (λ k apart. either (p k) (eqb k j) (ne_eqb k j apart))
+    count_but (λ k. p k || eqb k j) p 0 n j (omega arith) (omega arith) fails (λ k apart. rw (ne_eqb k j apart) (or-false (p k)))
     ∙ ap (λ (b : Bool). cond {A = ℕ} b 1 0 + count_by p (range_with_len 0 n)) (or_right (p j) (eqb j j) (eq-eqb j j refl)) in
     omega (arith, one_more, length-filter p (range_with_len 0 n), count_by-le-length (λ k. p k || eqb k j) (range_with_len 0 n), length-range_with_len 0 n)
-  where
-    either : (b c : Bool) → c ≡ false → (b || c) ≡ b
-    either true c is = refl
-    either false c is = is
 
 waiting_is_not_free : (taken : List Bool) (waits : List ℕ) (j : ℕ) → 0 < get_or waits j 0 → is_free taken waits j ≡ false
 waiting_is_not_free taken waits j some =
     let other : eqb (get_or waits j 0) 0 ≡ false = ne_eqb (get_or waits j 0) 0 (λ e. absurd (omega arith)) in
-    rw other (never (not (is_taken taken j)))
-  where
-    never : (b : Bool) → (b && false) ≡ false
-    never true = refl
-    never false = refl
+    rw other (and-false (not (is_taken taken j)))
 
 pub next_link : (n : ℕ) (taken : List Bool) (xs start waits list : List ℕ) (p j : ℕ) → Links n taken xs start → Lowering n taken xs start waits list p → p < length xs → j ≡ get_or xs p 0
     → NextLink n list waits j

@@ -6,6 +6,7 @@ pub mod laws;
 mod level;
 mod linking;
 mod ready;
+pub mod worked;
 
 pub use graph::Graph;
 pub use level::levels;

@@ -3,6 +3,7 @@
 
 pub mod laws;
 mod schedule;
+pub mod worked;
 
 pub use schedule::order;
 
