@@ -9,7 +9,7 @@ use Rattle.qccd_circuit.specs.Operands.{operands_of, uses}
 use Rattle.qccd_circuit.proofs.Shared.{shares-operands}
 use Rattle.dep_graph.specs.Direct.{used_by, uses_at, operands_in, share_both, shares_at, is_first, directly_before}
 
--- ---- the first item from a place on
+-- ---- the first item from a number on
 
 pub uses_within : (items : List ItemData) (i o : ℕ) → uses_at items i o ≡ true → i < length items
 uses_within items i o is = elim (cases_lt i (length items)) [

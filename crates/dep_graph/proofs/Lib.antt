@@ -3,3 +3,4 @@ pub mod DirectLemmas
 pub mod Linked
 pub mod Free
 pub mod Taking
+pub mod Rounds

@@ -18,7 +18,7 @@ use Rattle.qccd_circuit.proofs.Shared.{operands_below}
 use Rattle.qccd_circuit.proofs.Rising.{count_by-cons, times}
 use Rattle.dep_graph.specs.Direct.{used_by, operands_in, is_first, directly_before}
 use Rattle.dep_graph.specs.Graph.{links_of}
-use Rattle.dep_graph.specs.Linking.{LinkingData, LinksFrom, HasPlace, is_some_at, linked_where, met}
+use Rattle.dep_graph.specs.Linking.{LinkingData, LinksFrom, HasEntries, is_some_at, linked_where, met}
 use Rattle.dep_graph.proofs.DirectLemmas.{first-step, first-end, First, first_is, any_common}
 
 pub LinksFrom-none : (items : List ItemData) (n : ℕ) → length items ≡ n
@@ -245,17 +245,17 @@ Partly-next items n os i old now k o all low made part within is small = elim (c
           | inr not_yet ↦ rw (known ∙ not_yet) (Partly-new n os i old now k o later part within is small some (omega (arith, found.low)) (omega (arith, found.within)) not_yet)
         ]
 
--- what the table has on an operand has a place and no great count
-pub Partly-place : (items : List ItemData) (n : ℕ) (os : List ℕ) (i : ℕ) (old now : LinkingData) (k o : ℕ) → length items ≡ n → i < n → n ≤ 65536 → LinksFrom items (i + 1) old
-    → Partly n os i old now k → o < 512 → IfSome (get_or now.next o None) (λ later. HasPlace now later)
-Partly-place items n os i old now k o all low few made part small = elim (cases_Bool (list_any (λ m. m == o) (take k os))) [
+-- what the table has on an operand has its entries and no great count
+pub Partly-entries : (items : List ItemData) (n : ℕ) (os : List ℕ) (i : ℕ) (old now : LinkingData) (k o : ℕ) → length items ≡ n → i < n → n ≤ 65536 → LinksFrom items (i + 1) old
+    → Partly n os i old now k → o < 512 → IfSome (get_or now.next o None) (λ later. HasEntries now later)
+Partly-entries items n os i old now k o all low few made part small = elim (cases_Bool (list_any (λ m. m == o) (take k os))) [
   | inl again ↦ let own : get_or now.next o None ≡ Some i = part.next o small ∙ rw again refl in rw own (place i low)
   | inr fresh ↦
       let first : get_or now.next o None ≡ get_or old.next o None = part.next o small ∙ rw fresh refl in
       rw first (either (get_or old.next o None) refl)
 ]
   where
-    place : (later : ℕ) → later < n → HasPlace now later
+    place : (later : ℕ) → later < n → HasEntries now later
     place later high = record {
       linked_by = omega (arith, part.all_linked_by);
       waits = omega (arith, part.all_waits);
@@ -270,7 +270,7 @@ Partly-place items n os i old now k o all low few made part small = elim (cases_
         at_most true = omega arith
         at_most false = omega arith
 
-    either : (v : Option ℕ) → get_or old.next o None ≡ v → IfSome v (λ later. HasPlace now later)
+    either : (v : Option ℕ) → get_or old.next o None ≡ v → IfSome v (λ later. HasEntries now later)
     either None none = tt
     either (Some later) some = place later (omega (arith, (later_is items i old made o later small some).within))
 

@@ -41,7 +41,7 @@ ready_parts items taken j is =
     either true c h is = h
     either false c h is = absurd (false≢true is)
 
-is_ready_from : (items : List ItemData) (taken : List Bool) (j : ℕ) → j < length items → is_taken taken j ≡ false → ((i : ℕ) → i < j → shares_at items i j ≡ true → is_taken taken i ≡ true) → is_ready items taken j ≡ true
+pub is_ready_from : (items : List ItemData) (taken : List Bool) (j : ℕ) → j < length items → is_taken taken j ≡ false → ((i : ℕ) → i < j → shares_at items i j ≡ true → is_taken taken i ≡ true) → is_ready items taken j ≡ true
 is_ready_from items taken j within fresh before =
     rw (lt-ltb j (length items) within, fresh) (all_in_range (λ i. not (shares_at items i j) || is_taken taken i) 0 j (λ i low high. each i (omega arith)))
   where

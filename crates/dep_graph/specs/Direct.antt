@@ -26,7 +26,7 @@ share_both (Some a) (Some b) = shares a b
 abbrev pub shares_at : List ItemData → ℕ → ℕ → Bool
 shares_at items i j = share_both (slice_get items i) (slice_get items j)
 
--- whether j is the first item from a place on that uses the operand
+-- whether j is the first item from a number on that uses the operand
 abbrev pub is_first : List ItemData → ℕ → ℕ → ℕ → Bool
 is_first items from o j =
     nat_le from j && uses_at items j o && not (list_any (λ k. uses_at items k o) (range_with_len from (j - from)))

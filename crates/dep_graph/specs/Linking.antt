@@ -25,7 +25,7 @@ abbrev pub is_some_at : Option ℕ → ℕ → Bool
 is_some_at None j = false
 is_some_at (Some k) j = k == j
 
--- of the items from a place on: their links, counts and first items on each operand; and each was linked last
+-- of the items from a number on: their links, counts and first items on each operand; and each was linked last
 -- by one of them
 pub record LinksFrom (items : List ItemData) (from : ℕ) (made : LinkingData) : Type 0 where
   pub linked : AreLinked items from made.links made.ends
@@ -54,8 +54,8 @@ abbrev pub met : LinkingData → ℕ → ℕ → LinkingData
 met made row number =
     linked_where (record made { next = slice_set made.next row (Some number) }) (get_or made.next row None) number
 
--- the item of this number, if there is one, has a place in the lists and no great count
-pub record HasPlace (made : LinkingData) (later : ℕ) : Type 0 where
+-- the item of this number has its entries in the lists, and no great count
+pub record HasEntries (made : LinkingData) (later : ℕ) : Type 0 where
   pub linked_by : later < length made.linked_by
   pub waits : later < length made.waits
   pub few : get_or made.waits later 0 ≤ 131072

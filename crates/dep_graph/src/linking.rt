@@ -1,7 +1,7 @@
 //! A graph in the making: the items from some number on are linked.
 
 ghost use Rattle.std.specs.Prelude.{◌≡◌, ◌+◌, ◌<◌, ◌≤◌, ℕ, List, IfOk, IfSome, None, OnOk, Some, get_or, length, slice_get};
-ghost use Rattle.dep_graph.specs.Linking.{HasPlace, LinksFrom, data_of, linked_to, met};
+ghost use Rattle.dep_graph.specs.Linking.{HasEntries, LinksFrom, data_of, linked_to, met};
 ghost use Rattle.qccd_circuit.specs.Circuit.{IsWithin};
 ghost use Rattle.qccd_circuit.specs.Item.{ItemData};
 
@@ -65,7 +65,7 @@ impl Linking {
     // The item is now the first on an operand, and is linked to the one that was.
     fn meet(&mut self, row: usize, number: u32) -> Result<(), NoMemory>
         requires row { row < 512 }
-        requires place { IfSome (get_or self.old.next row None) (λ later. HasPlace (data_of self.old) later) }
+        requires entries { IfSome (get_or self.old.next row None) (λ later. HasEntries (data_of self.old) later) }
         ensures { OnOk result (data_of self.new ≡ met (data_of self.old) row number) }
     {
         let first = self.next[row];
@@ -78,7 +78,7 @@ impl Linking {
 
     // Links the item to a later one, unless it is already.
     fn link_to(&mut self, later: u32, number: u32) -> Result<(), NoMemory>
-        requires { HasPlace (data_of self.old) later }
+        requires { HasEntries (data_of self.old) later }
         ensures { OnOk result (data_of self.new ≡ linked_to (data_of self.old) later number) }
     {
         let index = later as usize;

@@ -119,7 +119,7 @@ pub fn each_gate_comes_once()
     ensures instead { SameOrder three_gates (0 ∷ 0 ∷ 2 ∷ []) → ⊥ }
 {}
 
-/// A gate that shares with none may come at any place. A gate under a bit may not come before the measurement
+/// A gate that shares with none may come anywhere. A gate under a bit may not come before the measurement
 /// into that bit, and no gate may pass a barrier over its qubit.
 pub fn bits_and_barriers_keep_their_order()
     ensures apart { SameOrder five_items (4 ∷ 0 ∷ 1 ∷ 2 ∷ 3 ∷ []) }

@@ -4,7 +4,7 @@ use Rattle.std.proofs.lemmas.Option.{slice_get_within}
 use Rattle.qccd_circuit.specs.Operands.{operands_of}
 use Rattle.qccd_circuit.proofs.MarkLemmas.{operand_below}
 use Rattle.dep_graph.specs.Linking.{LinkingData, LinksFrom, data_of}
-use Rattle.dep_graph.proofs.Linked.{Partly, Partly-start, Partly-next, Partly-place, LinksFrom-next}
+use Rattle.dep_graph.proofs.Linked.{Partly, Partly-start, Partly-next, Partly-entries, LinksFrom-next}
 use Rattle.dep_graph.proofs.linking.Linking.link.Goals as goal
 
 pub loop-k-init : goal.loop-k-init
@@ -14,11 +14,11 @@ loop-k-init c = λ items there made.
 pub meet-requires-clause-row : goal.meet-requires-clause-row
 meet-requires-clause-row c = let below = operand_below c.args.item.now c.loop-k.k c.requires.within (omega arith) in omega arith
 
-pub meet-requires-clause-place : goal.meet-requires-clause-place
-meet-requires-clause-place c =
+pub meet-requires-clause-entries : goal.meet-requires-clause-entries
+meet-requires-clause-entries c =
     let behind = c.requires.behind in
     let below : get_or (operands_of c.args.item.now) c.loop-k.k 0 < 512 = operand_below c.args.item.now c.loop-k.k c.requires.within (omega arith) in
-    Partly-place behind.0 (length behind.0) (operands_of c.args.item.now) c.args.number (data_of c.args.self.now) (data_of c.loop-k.self) c.loop-k.k c.operand.result refl
+    Partly-entries behind.0 (length behind.0) (operands_of c.args.item.now) c.args.number (data_of c.args.self.now) (data_of c.loop-k.self) c.loop-k.k c.operand.result refl
     (slice_get_within behind.0 c.args.number c.args.item.now behind.2) behind.1 behind.3 (c.loop-k.invariant behind.0 behind.2 behind.3) (omega arith)
 
 pub loop-k-preserved : goal.loop-k-preserved

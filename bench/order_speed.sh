@@ -1,0 +1,37 @@
+#!/bin/sh
+# How long it takes to order a circuit of 65,536 gates on 256 qubits, the most of both. It checks nothing, and no
+# test runs it.
+#
+#   bench/order_speed.sh
+#
+# The program is crates/order_speed, which `rt run` in its folder proves and builds. It makes the circuit and orders
+# it as often as it is told, so that what a further time takes is the time of one order.
+set -u
+here=$(cd "$(dirname "$0")" && pwd) || exit 1
+program=$here/../crates/order_speed/out/order_speed
+times=50
+rounds=5
+
+if ! [ -x "$program" ]; then
+    echo "the program is not built yet: call rt run in crates/order_speed once" >&2
+    exit 1
+fi
+
+# The least wall time of some rounds in nanoseconds, with so many orders in each.
+least_time() {
+    least=
+    round=0
+    while [ "$round" -lt "$rounds" ]; do
+        start=$(date +%s%N)
+        printf %s "$1" | "$program" >/dev/null || exit 1
+        took=$(($(date +%s%N) - start))
+        if [ -z "$least" ] || [ "$took" -lt "$least" ]; then least=$took; fi
+        round=$((round + 1))
+    done
+    echo "$least"
+}
+none=$(least_time 0) || exit 1
+many=$(least_time "$times") || exit 1
+echo "least wall time of $rounds rounds, 65536 gates on 256 qubits:"
+echo "  circuit made  $((none / 1000)) microseconds"
+echo "  one order     $(((many - none) / times / 1000)) microseconds"
