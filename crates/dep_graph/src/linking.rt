@@ -1,6 +1,6 @@
 //! A graph in the making: the items from some number on are linked.
 
-ghost use Rattle.std.specs.Prelude.{◌≡◌, ◌+◌, ◌<◌, ◌≤◌, ℕ, List, IfOk, IfSome, None, OnOk, Some, get_or, length, slice_get};
+ghost use Rattle.std.specs.Prelude.{◌≡◌, ◌+◌, ◌<◌, ◌≤◌, List, IfOk, IfSome, None, OnOk, Some, get_or, length, slice_get};
 ghost use Rattle.dep_graph.specs.Linking.{HasEntries, LinksFrom, data_of, linked_to, met};
 ghost use Rattle.qccd_circuit.specs.Circuit.{IsWithin};
 ghost use Rattle.qccd_circuit.specs.Item.{ItemData};

@@ -1,6 +1,6 @@
 //! The greatest mark on each operand.
 
-ghost use Rattle.std.specs.Prelude.{◌≡◌, ◌≤◌, ◌∷◌, ℕ, List, [], length, get_or};
+ghost use Rattle.std.specs.Prelude.{◌≡◌, ◌≤◌, ◌∷◌, List, []};
 ghost use Rattle.qccd_circuit.specs.Circuit.{IsWithin};
 ghost use Rattle.qccd_circuit.specs.Marks.{Marked, AreMarks, mark_before};
 
