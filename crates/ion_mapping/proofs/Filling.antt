@@ -1,18 +1,17 @@
 -- Traps filled in the order of their numbers.
-use Rattle.std.proofs.Common.{◌≡◌, ℕ, zero, suc, ◌+◌, ◌-◌, ◌<◌, ◌≤◌, max, min, Bool, true, false, cond, eqb, not, List, [], ◌∷◌, ◌++◌, map, length, take, drop, get_or, refl, sym, ◌∙◌, ap, arith, inl, inr, length-append, length-drop, append_assoc}
-use Rattle.std.specs.Prelude.{◌==◌, count_by, flat_map, sum, nat_le, nat_lt, find, unwrap_or, slice_get, option_map, Some}
-use Rattle.std.specs.List.{range_with_len}
-use Rattle.std.proofs.lemmas.Bool.{cases_Bool, cases_lt, lt-ltb, le-ltb, leb-true, ltb-false}
+use Rattle.std.proofs.Common.{◌≡◌, ℕ, zero, suc, ◌+◌, ◌-◌, ◌<◌, ◌≤◌, max, min, cond, List, [], ◌∷◌, ◌++◌, map, length, take, drop, get_or, refl, sym, ◌∙◌, ap, arith, inl, inr, length-drop, append_assoc}
+use Rattle.std.specs.Prelude.{◌==◌, count_by, flat_map, sum, nat_le, nat_lt, slice_get, option_map, Some}
+use Rattle.std.proofs.lemmas.Bool.{cases_Bool, cases_lt, leb-true}
 use Rattle.std.proofs.lemmas.List.{take-append-drop, length-take, take_min}
 use Rattle.std.proofs.lemmas.List.Sums.{sum_by-cons}
 use Rattle.std.proofs.lemmas.Option.{slice_get-map}
 use Rattle.qccd_base.specs.Names.{ion}
 use Rattle.qccd_base.specs.declared.names.Ion.{Ion}
 use Rattle.qccd_circuit.specs.Circuit.{CircuitData, IsCircuit}
-use Rattle.qccd_machine.specs.Machine.{MachineData, IsValid, slots_of}
+use Rattle.qccd_machine.specs.Machine.{MachineData, IsValid}
 use Rattle.ion_mapping.specs.Placement.{by_use, fills, filled, placed, spared}
 use Rattle.ion_mapping.proofs.Steps.{drop_there, drop_past}
-use Rattle.ion_mapping.proofs.Firsts.{times, times-cons, times-append, use_once, use_long}
+use Rattle.ion_mapping.proofs.Firsts.{times, times-cons, use_once, use_long}
 
 -- how often ion i stands in a list, and in all lists
 abbrev pub ion_times : List Ion → ℕ → ℕ

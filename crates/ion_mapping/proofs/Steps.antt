@@ -1,8 +1,8 @@
 -- Steps of loops over what is left of a list, and numbers that are taken one after another.
-use Rattle.std.proofs.Common.{◌≡◌, ℕ, zero, suc, ◌+◌, ◌<◌, ◌≤◌, Bool, true, false, cond, eqb, not, ◌||◌, ◌&&◌, List, [], ◌∷◌, ◌++◌, map, length, take, drop, get_or, refl, sym, ◌∙◌, ap, subst, arith, Some, inl, inr, ◌⊎◌, append_assoc, append-nil, drop-cons, ◌-◌}
+use Rattle.std.proofs.Common.{◌≡◌, ℕ, zero, suc, ◌+◌, ◌<◌, ◌≤◌, Bool, true, false, eqb, not, ◌||◌, ◌&&◌, List, [], ◌∷◌, ◌++◌, map, length, drop, refl, sym, ◌∙◌, ap, subst, arith, Some, inl, inr, ◌⊎◌, append_assoc, append-nil, drop-cons, ◌-◌}
 use Rattle.std.proofs.Math.Seq.{drop-nil}
 use Rattle.std.specs.Prelude.{◌==◌, filter, slice_get}
-use Rattle.std.specs.List.{All, list_any, range_with_len}
+use Rattle.std.specs.List.{All, range_with_len}
 use Rattle.std.proofs.lemmas.Bool.{cases_Bool, eqb-true, eq-eqb}
 use Rattle.std.proofs.lemmas.Option.{slice_get_within, get_or_from_slice_get}
 use Rattle.std.proofs.lemmas.Bool.Decides.{nat_tests}

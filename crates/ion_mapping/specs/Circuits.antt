@@ -6,7 +6,7 @@ use Rattle.qccd_base.specs.declared.names.Ion.{Ion}
 use Rattle.qccd_circuit.specs.Circuit.{CircuitData}
 use Rattle.qccd_circuit.specs.Item.{ItemData}
 use Rattle.qccd_circuit.specs.declared.kinds.ItemKind.{ItemKind}
-use Rattle.qccd_circuit.specs.declared.kinds.ItemKind.TheVariants.{Gate1, Gate2, Barrier}
+use Rattle.qccd_circuit.specs.declared.kinds.ItemKind.TheVariants.{Gate1, Gate2}
 
 -- an item of this kind on these qubits
 abbrev pub item_on : ItemKind → List ℕ → List ℕ → ItemData

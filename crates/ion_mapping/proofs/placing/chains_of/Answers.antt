@@ -1,4 +1,4 @@
-use Rattle.std.proofs.Common.{◌≡◌, Some, arith, ◌∙◌, sym, ap, take, drop}
+use Rattle.std.proofs.Common.{◌≡◌, Some, ◌∙◌, sym, ap, take, drop}
 use Rattle.std.specs.Prelude.{slice_get}
 use Rattle.ion_mapping.specs.Placement.{fills, filled}
 use Rattle.ion_mapping.proofs.Filling.{fill_there, chain_filled}

@@ -1,4 +1,4 @@
-use Rattle.std.proofs.Common.{◌≡◌, ◌<◌, Some, arith, ◌∙◌, sym, ap, List, ℕ, map, subst}
+use Rattle.std.proofs.Common.{◌≡◌, ◌<◌, Some, arith, ◌∙◌, sym, ap, List, map, subst}
 use Rattle.std.specs.Prelude.{slice_get, All}
 use Rattle.std.proofs.lemmas.Option.{slice_get-get_or}
 use Rattle.qccd_base.specs.declared.names.Qubit.{Qubit}

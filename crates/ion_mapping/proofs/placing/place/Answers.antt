@@ -1,6 +1,5 @@
-use Rattle.std.proofs.Common.{◌≡◌, ap, sym, ◌∙◌, ℕ, List, map}
+use Rattle.std.proofs.Common.{◌≡◌, ap, ◌∙◌, map}
 use Rattle.qccd_base.specs.Names.{ion}
-use Rattle.qccd_base.specs.declared.names.Ion.{Ion}
 use Rattle.ion_mapping.specs.Placement.{by_use, filled, fills, placed, spared}
 use Rattle.ion_mapping.proofs.placing.place.Goals as goal
 

@@ -1,4 +1,4 @@
-use Rattle.std.proofs.Common.{◌≡◌, sym, ◌∙◌, ap, map, false}
+use Rattle.std.proofs.Common.{sym, ◌∙◌, ap, map, false}
 use Rattle.std.proofs.lemmas.List.{get_or-replicate}
 use Rattle.ion_mapping.specs.Taking.{has}
 use Rattle.ion_mapping.proofs.taking.Taking.with_room.Goals as goal
