@@ -125,7 +125,10 @@ all_within n (x ∷ xs) none = elim (cases_lt x n) [
       absurd (omega (arith, none x past, times-cons x xs x))
 ]
 
+pub once_long : (n : ℕ) (xs : List ℕ) → ((k : ℕ) → times xs k ≡ cond (nat_lt k n) 1 0) → length xs ≡ n
+once_long n xs once =
+    sym (all_within n xs (λ k past. once k ∙ rw (le-ltb k n past) refl))
+    ∙ within_all xs 0 n (λ k low high. once k ∙ rw (lt-ltb k n (omega arith)) refl)
+
 pub use_long : (c : CircuitData) → IsCircuit c → length (by_use c) ≡ c.qubits
-use_long c circuit =
-    sym (all_within c.qubits (by_use c) (λ k past. use_once c k circuit ∙ rw (le-ltb k c.qubits past) refl))
-    ∙ within_all (by_use c) 0 c.qubits (λ k low high. use_once c k circuit ∙ rw (lt-ltb k c.qubits (omega arith)) refl)
+use_long c circuit = once_long c.qubits (by_use c) (λ k. use_once c k circuit)
