@@ -87,7 +87,7 @@ unplaced m n (Item number t item at) cs h = fails (placed m n (Item number t ite
 unplaced m n (Fence number item traps) cs h = fails (placed m n (Fence number item traps)) (drop 1 (needs_on m n (Fence number item traps) cs)) h
 
 -- the cells of resources that are there hold what the resources hold
-shown : (m : MachineData) (s : State) (cells : List Cell) (rs : List Res) → Shows m s cells → AllByRecursion (IsThere m s.bits) rs → map (content_at m cells) rs ≡ map (content s) rs
+pub shown : (m : MachineData) (s : State) (cells : List Cell) (rs : List Res) → Shows m s cells → AllByRecursion (IsThere m s.bits) rs → map (content_at m cells) rs ≡ map (content s) rs
 shown m s cells [] shows there = refl
 shown m s cells (r ∷ rs) shows there =
     let here = shows.each r there.0 in

@@ -1,9 +1,12 @@
 pub mod Adjusting
+pub mod ColdRuns
 pub mod InOrder
 pub mod InTurn
 pub mod Legalities
 pub mod Mapped
 pub mod OneRuns
+pub mod OpeningContents
+pub mod Permitted
 pub mod Rising
 pub mod Rooms
 pub mod ShortSteps

@@ -85,34 +85,34 @@ start-small m op cells may = subst (λ (ns : List ℕ). greatest ns < 2 ^ 62) (s
     go (d ∷ ds) all = let own : d.clock < 2 ^ 62 = all.0 in let rest = go ds all.1 in omega (arith, own, rest)
 
 -- changes leave lengths, other places, and what each of them keeps
-all_long : (m : MachineData) (rs : List Res) (fs : List (Cell → Cell)) (cells : List Cell) → length (adjust_all m rs fs cells) ≡ length cells
+pub all_long : (m : MachineData) (rs : List Res) (fs : List (Cell → Cell)) (cells : List Cell) → length (adjust_all m rs fs cells) ≡ length cells
 all_long m [] fs cells = refl
 all_long m (r ∷ rs) [] cells = refl
 all_long m (r ∷ rs) (f ∷ fs) cells = all_long m rs fs (adjust f cells (index_of m r)) ∙ adjust-long f cells (index_of m r)
 
-all_other : (m : MachineData) (rs : List Res) (fs : List (Cell → Cell)) (cells : List Cell) (i : ℕ) → AllByRecursion (λ q. i ≢ index_of m q) rs → slice_get (adjust_all m rs fs cells) i ≡ slice_get cells i
+pub all_other : (m : MachineData) (rs : List Res) (fs : List (Cell → Cell)) (cells : List Cell) (i : ℕ) → AllByRecursion (λ q. i ≢ index_of m q) rs → slice_get (adjust_all m rs fs cells) i ≡ slice_get cells i
 all_other m [] fs cells i apart = refl
 all_other m (r ∷ rs) [] cells i apart = refl
 all_other m (r ∷ rs) (f ∷ fs) cells i apart = all_other m rs fs (adjust f cells (index_of m r)) i apart.1 ∙ adjust-other f cells (index_of m r) i apart.0
 
-adjust_keeps : (Q : Cell → ℕ) (f : Cell → Cell) (cells : List Cell) (i j : ℕ) → option_map Q (option_map f (slice_get cells i)) ≡ option_map Q (slice_get cells i) → option_map Q (slice_get (adjust f cells i) j) ≡ option_map Q (slice_get cells j)
+adjust_keeps : {Y : Type 0} (Q : Cell → Y) (f : Cell → Cell) (cells : List Cell) (i j : ℕ) → option_map Q (option_map f (slice_get cells i)) ≡ option_map Q (slice_get cells i) → option_map Q (slice_get (adjust f cells i) j) ≡ option_map Q (slice_get cells j)
 adjust_keeps Q f [] i j keeps = refl
 adjust_keeps Q f (c ∷ cells) zero zero keeps = keeps
 adjust_keeps Q f (c ∷ cells) zero (suc j) keeps = refl
 adjust_keeps Q f (c ∷ cells) (suc i) zero keeps = refl
 adjust_keeps Q f (c ∷ cells) (suc i) (suc j) keeps = adjust_keeps Q f cells i j keeps
 
-through : (Q : Cell → ℕ) (f : Cell → Cell) (o : Option Cell) → ((c : Cell) → Q (f c) ≡ Q c) → option_map Q (option_map f o) ≡ option_map Q o
+through : {Y : Type 0} (Q : Cell → Y) (f : Cell → Cell) (o : Option Cell) → ((c : Cell) → Q (f c) ≡ Q c) → option_map Q (option_map f o) ≡ option_map Q o
 through Q f None keeps = refl
 through Q f (Some c) keeps = ap Some (keeps c)
 
-all_keep : (Q : Cell → ℕ) (m : MachineData) (rs : List Res) (fs : List (Cell → Cell)) (cells : List Cell) (j : ℕ) → AllByRecursion (λ f. (c : Cell) → Q (f c) ≡ Q c) fs → option_map Q (slice_get (adjust_all m rs fs cells) j) ≡ option_map Q (slice_get cells j)
+pub all_keep : {Y : Type 0} (Q : Cell → Y) (m : MachineData) (rs : List Res) (fs : List (Cell → Cell)) (cells : List Cell) (j : ℕ) → AllByRecursion (λ f. (c : Cell) → Q (f c) ≡ Q c) fs → option_map Q (slice_get (adjust_all m rs fs cells) j) ≡ option_map Q (slice_get cells j)
 all_keep Q m [] fs cells j keep = refl
 all_keep Q m (r ∷ rs) [] cells j keep = refl
 all_keep Q m (r ∷ rs) (f ∷ fs) cells j keep =
     all_keep Q m rs fs (adjust f cells (index_of m r)) j keep.1 ∙ adjust_keeps Q f cells (index_of m r) j (through Q f (slice_get cells (index_of m r)) keep.0)
 
-holding_keeps : (Q : Cell → ℕ) → ((x : Content) (c : Cell) → Q (holding x c) ≡ Q c) → (xs : List Content) → AllByRecursion (λ f. (c : Cell) → Q (f c) ≡ Q c) (map holding xs)
+pub holding_keeps : {Y : Type 0} (Q : Cell → Y) → ((x : Content) (c : Cell) → Q (holding x c) ≡ Q c) → (xs : List Content) → AllByRecursion (λ f. (c : Cell) → Q (f c) ≡ Q c) (map holding xs)
 holding_keeps Q keep [] = tt
 holding_keeps Q keep (x ∷ xs) = (keep x, holding_keeps Q keep xs)
 
@@ -132,7 +132,7 @@ applied [] ds = ds
 applied (g ∷ gs) [] = []
 applied (g ∷ gs) (d ∷ ds) = g d ∷ applied gs ds
 
-apart_from : (m : MachineData) (i : ℕ) (rs : List Res) → AllByRecursion (λ q. i < index_of m q) rs → AllByRecursion (λ q. i ≢ index_of m q) rs
+pub apart_from : (m : MachineData) (i : ℕ) (rs : List Res) → AllByRecursion (λ q. i < index_of m q) rs → AllByRecursion (λ q. i ≢ index_of m q) rs
 apart_from m i [] up = tt
 apart_from m i (q ∷ rs) up = ((λ e. let less : i < index_of m q = up.0 in omega (arith, less, e)), apart_from m i rs up.1)
 

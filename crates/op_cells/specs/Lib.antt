@@ -1,8 +1,10 @@
 pub mod Acted
+pub mod Cold
 pub mod Kinds
 pub mod Log
 pub mod Numbering
 pub mod OneRun
+pub mod Opening
 pub mod Placed
 pub mod Places
 pub mod Settled

@@ -1,9 +1,11 @@
 //! The cells of a machine: what each resource holds, when it is free, and what was done with it.
 
 ghost use Rattle.std.specs.Prelude.{◌≡◌, ◌<◌, ℕ, Some, length, slice_get};
+ghost use Rattle.op_cells.specs.Cold.{MayRunCold, RanCold};
 ghost use Rattle.op_cells.specs.Kinds.{is_trap, is_up_to_segment, is_up_to_junction, junctions_end, place_of, segments_end, traps_end};
 ghost use Rattle.op_cells.specs.OneRun.{MayRun, Ran};
 
+use crate::cooling::run_cold_on;
 use crate::done_list::DoneList;
 use crate::running::run_on;
 use op_table::{Content, Op};
@@ -95,6 +97,15 @@ pub fn run_one(machine: &Machine, k: u32, op: &Op, cells: &mut Cells)
     ensures { (bits : ℕ) → Ran machine.now bits k op.now cells.old cells.new }
 {
     run_on(machine, k, op, cells.cells.as_mut_slice());
+}
+
+/// Does the operation on what the cells hold that it touches, and leaves each of these cold: every heat
+/// there is 0. All clocks and logs stay, and so do the other cells. It takes no memory.
+pub fn run_cold(machine: &Machine, op: &Op, cells: &mut Cells)
+    requires { MayRunCold machine.now op.now cells.old }
+    ensures { (bits : ℕ) → RanCold machine.now bits op.now cells.old cells.new }
+{
+    run_cold_on(machine, op, cells.cells.as_mut_slice());
 }
 
 // Where the traps end.

@@ -45,6 +45,13 @@ impl DoneList {
         self.done.as_slice()
     }
 
+    /// For how many entries more there is room.
+    pub fn room(&self) -> usize
+        ensures { result ≡ self.now.spare }
+    {
+        self.room
+    }
+
     /// Puts an entry at the end. It takes no memory.
     pub fn note(&mut self, done: Done)
         requires { 0 < self.old.spare }

@@ -12,7 +12,7 @@ use qccd_base::{End, SegEnd};
 use time_heat::{enter_heat, merge_heat, move_heat, rot_heat, split_heat};
 
 /// The entries of a trap's chain; of anything else there are none.
-pub(crate) fn chain_in(content: &Content) -> &[Entry]
+pub fn chain_in(content: &Content) -> &[Entry]
     ensures { result.now ≡ chain_in content.now }
 {
     match content {
@@ -24,7 +24,7 @@ pub(crate) fn chain_in(content: &Content) -> &[Entry]
 }
 
 /// The ion on a segment.
-pub(crate) fn rider_in(content: &Content) -> Option<Rider>
+pub fn rider_in(content: &Content) -> Option<Rider>
     ensures { result ≡ rider_in content.now }
 {
     match content {

@@ -1,6 +1,6 @@
 //! When an operation is legal on the cells of a machine, and why not.
 
-ghost use Rattle.std.specs.Prelude.{◌≡◌, ◌-◌, ◌<◌, ◌≤◌, ◌&&◌, ◌==◌, ◌∷◌, [], length, map, get_or, nat_lt, is_none, is_some, Option, option_map, slice_get};
+ghost use Rattle.std.specs.Prelude.{◌≡◌, ◌-◌, ◌<◌, ◌≤◌, ◌&&◌, ◌==◌, ◌∷◌, [], length, map, get_or, nat_lt, is_none, is_some, Option, IfNone, option_map, slice_get};
 ghost use Rattle.std.specs.List.{list_any, list_all};
 ghost use Rattle.std.specs.Result.{result_err};
 ghost use Rattle.qccd_base.specs.FirstFailing.{first_failing};
@@ -13,6 +13,7 @@ ghost use Rattle.op_table.specs.Touch.{touches};
 ghost use Rattle.op_table.specs.declared.kinds.Why.TheVariants as why;
 ghost use Rattle.op_cells.specs.Placed.{IsPlaced, bits_start, needs_there, placed};
 ghost use Rattle.op_cells.specs.Places.{content_at};
+ghost use Rattle.op_cells.specs.Settled.{IsLegalOn};
 ghost use Rattle.op_cells.specs.Shows.{AreOf, Shows};
 
 use crate::cells::{Cell, Cells};
@@ -36,6 +37,16 @@ pub fn legal(machine: &Machine, op: &Op, cells: &Cells) -> Result<(), Why>
         None => Ok(()),
         Some(why) => Err(why),
     }
+}
+
+/// Why the operation is not legal on these cells, whatever they show.
+pub(crate) fn told(machine: &Machine, op: &Op, cells: &[Cell]) -> Option<Why>
+    ensures { IfNone result (IsLegalOn machine.now op.now (map (content_at machine.now cells.now) (touches op.now))) }
+{
+    if cells.len() < index_of(machine, Res::Bit(Bit(0))) {
+        return Some(Why::NoPlace);
+    }
+    cause(machine, op, cells)
 }
 
 // Why the operation is not legal on the cells.

@@ -3,6 +3,7 @@
 
 mod cells;
 mod changes;
+mod cooling;
 mod done_list;
 mod durations;
 mod effects;
@@ -11,10 +12,19 @@ mod held;
 pub mod laws;
 mod legality;
 mod numbering;
+mod opening;
+mod permitting;
 mod places;
 mod running;
 
-pub use cells::{Cell, Cells, Done, Held, run_one};
+pub use cells::{Cell, Cells, Done, Held, run_cold, run_one};
 pub use done_list::DoneList;
+pub use effects::{chain_in, rider_in};
 pub use held::apply;
 pub use legality::legal;
+pub use numbering::{count_of, index_of};
+pub use opening::start_chain;
+pub use permitting::may_run;
+
+#[cfg(test)]
+mod tests;

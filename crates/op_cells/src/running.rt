@@ -57,8 +57,8 @@ fn start_at(machine: &Machine, touched: &[Res], cells: &[Cell]) -> u64
     start
 }
 
-// What the resources hold after the operation. One that touches more than two changes nothing.
-fn act_at(machine: &Machine, op: &Op, cells: &mut [Cell])
+/// What the resources hold after the operation. One that touches more than two changes nothing.
+pub(crate) fn act_at(machine: &Machine, op: &Op, cells: &mut [Cell])
     requires within { AreWithin machine.now (length cells.old) (touches op.now) }
     requires in_turn { AreInTurn machine.now (touches op.now) }
     requires legal { IsLegalOn machine.now op.now (map (content_at machine.now cells.old) (touches op.now)) }
