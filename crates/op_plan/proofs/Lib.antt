@@ -1,0 +1,11 @@
+pub mod Agreeing
+pub mod Begun
+pub mod Cold
+pub mod Emitted
+pub mod Homes
+pub mod Rehomed
+pub mod Runs
+pub mod Shown
+pub mod Stands
+pub mod Three
+pub mod Told

@@ -1,0 +1,6 @@
+pub mod Cold
+pub mod Example
+pub mod Kept
+pub mod Opening
+pub mod Place
+pub mod Plan

@@ -1,0 +1,134 @@
+//! Plans: operations with the places and bindings that they leave.
+
+ghost use Rattle.std.specs.Prelude.{◌≡◌, ◌<◌, ◌∷◌, [], length, None, IfOk, OnErr, OnOk};
+ghost use Rattle.std.specs.Result.{result_err};
+ghost use Rattle.op_table.specs.Contents.{chain};
+ghost use Rattle.op_table.specs.Start.{IsStart};
+ghost use Rattle.op_table.specs.Step.{why};
+ghost use Rattle.op_plan.specs.Place.{stands_in};
+ghost use Rattle.op_plan.specs.Plan.{begun, state_of, with_ops, Agrees, IsPlan};
+
+use crate::moving::follow;
+use crate::opening::{capacities_of, copied, opening_cells, opening_homes, segments_of};
+use crate::reading::{chain_at, place_at};
+use op_cells::{Cells, legal};
+use op_table::{Entry, Op, Why};
+use qccd_base::{IonList, NoMemory, Qubit, TrapId};
+use qccd_machine::{Machine, Place};
+use std::alloc::Global;
+use std::marker::Model;
+
+/// Operations on machines of one wiring that are a run from their start chains, and where they leave each
+/// ion and qubit. No clock, heat or log is kept.
+#[derive(Debug, Drop)]
+pub struct Plan {
+    capacities: Vec<u8>,
+    junctions: u8,
+    segments: Vec<(Place, Place)>,
+    qubits: u16,
+    bits: u16,
+    start: Vec<IonList>,
+    ops: Vec<Op>,
+    // what each resource holds, always cold
+    cells: Cells,
+    // for each qubit the trap in which it stands
+    homes: Vec<Option<TrapId>>,
+}
+
+impl Model for Plan {
+    ghost use Rattle.op_plan.specs.Kept.{Keeps};
+    ghost use Rattle.op_plan.specs.Plan.{PlanData, plan_data};
+
+    ghost Value = { PlanData };
+
+    ghost view = { λ a. plan_data a.capacities.items a.junctions a.segments.items a.qubits a.bits a.start.items a.ops.items };
+
+    ghost invariant = { λ a. Keeps (plan_data a.capacities.items a.junctions a.segments.items a.qubits a.bits a.start.items a.ops.items) a.cells a.homes.items };
+}
+
+impl Plan {
+    /// The plan of the machine's start chains, with no operation yet.
+    pub fn begin(
+        alloc: Global,
+        machine: &Machine,
+        qubits: u16,
+        bits: u16,
+        chains: &[IonList],
+    ) -> Result<Plan, NoMemory>
+        requires { IsStart machine.now qubits chains.now }
+        ensures { IfOk result (λ plan. plan ≡ begun machine.now qubits bits chains.now) }
+    {
+        let _traps = machine.traps();
+        let capacities = capacities_of(alloc, machine)?;
+        let segments = segments_of(alloc, machine)?;
+        let start = copied(alloc, chains)?;
+        let cells = opening_cells(alloc, machine, bits, chains)?;
+        let homes = opening_homes(alloc, machine, qubits, chains)?;
+        Ok(Plan {
+            capacities,
+            junctions: machine.junctions(),
+            segments,
+            qubits,
+            bits,
+            start,
+            ops: Vec::new(alloc),
+            cells,
+            homes,
+        })
+    }
+
+    /// Appends a legal operation, with what it leaves. Where memory runs out the plan stays as it was.
+    pub fn emit(&mut self, machine: &Machine, op: Op) -> Result<(), NoMemory>
+        requires machine { Agrees machine.now self.old }
+        requires few { length self.old.ops < 4194304 }
+        requires legal { why machine.now (state_of self.old) op ≡ None }
+        ensures done { OnOk result (self.new ≡ with_ops self.old (op ∷ [])) }
+        ensures refused { OnErr result (self.new ≡ self.old) }
+    {
+        self.ops.push(op)?;
+        let last = self.ops.len() - 1;
+        follow(machine, &self.ops[last], &mut self.cells, &mut self.homes);
+        Ok(())
+    }
+
+    /// Whether the operation is legal after those of the plan, and if not, why: the cause that stands first
+    /// in `Why`. It takes no memory.
+    pub fn legal(&self, machine: &Machine, op: &Op) -> Result<(), Why>
+        requires { Agrees machine.now self.now }
+        ensures { result_err result ≡ why machine.now (state_of self.now) op.now }
+    {
+        let _kind = op.kind();
+        legal(machine, op, &self.cells)
+    }
+
+    /// The operations, in order.
+    pub fn ops(&self) -> &[Op]
+        ensures value { result.now ≡ self.now.ops }
+        ensures is_plan { IsPlan self.now }
+    {
+        self.ops.as_slice()
+    }
+
+    /// Hands out the operations, in order. It takes no memory.
+    pub fn into_ops(self) -> Vec<Op>
+        ensures { result.items ≡ self.ops }
+    {
+        self.ops
+    }
+
+    /// The ions of the trap with their qubits, from left to right.
+    pub fn chain(&self, t: TrapId) -> &[Entry]
+        requires { t.0 < length self.now.capacities }
+        ensures { result.now ≡ chain (state_of self.now) t.0 }
+    {
+        chain_at(&self.cells, t)
+    }
+
+    /// The trap in which the qubit stands and its position there, or `None` while its ion is in no trap.
+    pub fn place_of(&self, q: Qubit) -> Option<(TrapId, u8)>
+        requires { q.0 < self.now.qubits }
+        ensures { result ≡ stands_in (state_of self.now) q }
+    {
+        place_at(&self.cells, self.homes.as_slice(), q)
+    }
+}
