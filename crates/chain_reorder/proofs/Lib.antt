@@ -1,0 +1,13 @@
+pub mod Lists
+pub mod Steps
+pub mod Paths
+pub mod Ends
+pub mod Merging
+pub mod Crossing
+pub mod Swapping
+pub mod Carried
+pub mod Legs
+pub mod Reorder
+pub mod Running
+pub mod Emitting
+pub mod EndsThere
