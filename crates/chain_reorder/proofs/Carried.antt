@@ -1,15 +1,14 @@
 -- Operations take no qubit away and double none.
-use Rattle.std.proofs.Common.{◌≡◌, ℕ, zero, suc, ◌+◌, ◌-◌, ◌*◌, ◌<◌, ◌≤◌, Bool, true, false, cond, eqb, not, ◌||◌, ◌&&◌, List, [], ◌∷◌, ◌++◌, map, length, refl, sym, ◌∙◌, ap, arith, Option, Some, None, inl, inr, subst, ◌⊎◌}
-use Rattle.std.specs.Prelude.{◌==◌, count_by, filter, slice_get, unwrap_or}
+use Rattle.std.proofs.Common.{◌≡◌, ℕ, ◌+◌, Bool, true, false, cond, eqb, ◌&&◌, List, [], ◌∷◌, map, refl, sym, ◌∙◌, ap, arith, Some, inl, inr}
+use Rattle.std.specs.Prelude.{◌==◌, count_by, filter}
 use Rattle.std.specs.List.{list_all, AllByRecursion}
 use Rattle.std.proofs.lemmas.Bool.{cases_Bool, and_parts}
-use Rattle.std.proofs.lemmas.Bool.Decides.{nat_tests}
 use Rattle.qccd_base.specs.declared.names.Qubit.{Qubit}
 use Rattle.qccd_machine.specs.Machine.{MachineData}
 use Rattle.op_table.specs.declared.kinds.OpKind.{OpKind}
 use Rattle.op_table.specs.declared.kinds.OpKind.TheVariants.{Split, Move, Enter, Leave, Merge, Rot, GSwap, Item, Fence}
 use Rattle.op_table.specs.State.{Stand, State, is_at, qubit_at}
-use Rattle.op_table.specs.Step.{effect, swapped}
+use Rattle.op_table.specs.Step.{effect}
 use Rattle.op_table.specs.Run.{after}
 use Rattle.chain_reorder.proofs.Lists.{count_seen, count_by-cons}
 use Rattle.chain_reorder.proofs.Swapping.{exchanging, not_there}

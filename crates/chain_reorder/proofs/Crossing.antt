@@ -1,12 +1,12 @@
 -- Into a junction and out of it.
-use Rattle.std.proofs.Common.{◌≡◌, ℕ, zero, suc, ◌+◌, ◌-◌, ◌<◌, ◌≤◌, Bool, true, false, cond, eqb, ltb, ◌||◌, ◌&&◌, List, [], ◌∷◌, ◌++◌, map, length, refl, sym, ◌∙◌, ap, arith, Option, Some, None, inl, inr, subst, ◌⊎◌}
-use Rattle.std.specs.Prelude.{count_by, find, filter, slice_get, option_map}
+use Rattle.std.proofs.Common.{◌≡◌, ℕ, true, false, cond, eqb, ◌||◌, map, refl, sym, ◌∙◌, ap, arith, Some, None, inl, inr}
+use Rattle.std.specs.Prelude.{filter}
 use Rattle.std.proofs.lemmas.Bool.{cases_Bool, eqb-true}
 use Rattle.std.proofs.lemmas.Bool.Decides.{nat_tests}
 use Rattle.qccd_base.specs.declared.names.Qubit.{Qubit}
 use Rattle.qccd_base.specs.declared.names.SegEnd.{SegEnd}
 use Rattle.time_heat.specs.Heat.{entered_heat}
-use Rattle.op_table.specs.State.{IonPlace, InTrap, OnSegment, InJunction, Stand, State, is_in_trap, is_at, is_on_segment, is_in_junction, ions_in}
+use Rattle.op_table.specs.State.{IonPlace, InTrap, OnSegment, InJunction, Stand, State, is_in_trap, is_at, is_on_segment, is_in_junction}
 use Rattle.op_table.specs.Step.{place_heat}
 use Rattle.chain_reorder.specs.Layout.{Layout, Lies, listed, with_at, riding, end_on}
 use Rattle.chain_reorder.proofs.Lists.{nothing_from}

@@ -1,6 +1,6 @@
 -- A list of operations appended to a plan one by one.
-use Rattle.std.proofs.Common.{arith, ◌≡◌, ℕ, zero, suc, ◌+◌, ◌-◌, ◌<◌, ◌≤◌, true, List, [], ◌∷◌, ◌++◌, length, get_or, refl, sym, ◌∙◌, ap, ap₂, subst, Option, Some, None, option_map, length-append, append-nil, nat_lt}
-use Rattle.std.proofs.lemmas.Bool.{cases_lt, lt-ltb}
+use Rattle.std.proofs.Common.{◌≡◌, ℕ, ◌+◌, ◌<◌, ◌≤◌, true, List, [], ◌∷◌, length, get_or, sym, ◌∙◌, ap, ap₂, subst, Some, length-append, append-nil}
+use Rattle.std.proofs.lemmas.Bool.{lt-ltb}
 use Rattle.std.proofs.lemmas.Option.{same_Some}
 use Rattle.qccd_base.specs.declared.names.Qubit.{Qubit}
 use Rattle.qccd_base.specs.declared.names.TrapId.{TrapId}
@@ -12,9 +12,9 @@ use Rattle.op_table.specs.Contents.{chain}
 use Rattle.op_table.proofs.Chains.{length-chain}
 use Rattle.op_table.specs.declared.kinds.OpKind.{OpKind}
 use Rattle.op_table.specs.Run.{IsRun}
-use Rattle.op_table.specs.State.{InTrap, IonPlace, State, ions_in, IsSafe}
+use Rattle.op_table.specs.State.{State, ions_in}
 use Rattle.op_table.specs.Step.{has_trap}
-use Rattle.op_plan.specs.Place.{home, place_of, position_of, stands_in, trap_and_position, trap_of, trap_in, position_in}
+use Rattle.op_plan.specs.Place.{home, stands_in, trap_and_position, trap_in, position_in}
 use Rattle.op_plan.specs.Plan.{PlanData, Agrees, Continues, IsPlan, state_of, wired, with_ops}
 use Rattle.op_plan.proofs.Runs.{one_less, state_safe}
 use Rattle.op_plan.proofs.Stands.{Found}

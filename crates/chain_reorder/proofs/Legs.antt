@@ -1,8 +1,7 @@
 -- The operations of a hop, each legal where the layout says so, and the layout that it leaves.
-use Rattle.std.proofs.Common.{◌≡◌, ℕ, zero, suc, ◌+◌, ◌-◌, ◌<◌, ◌≤◌, Bool, true, false, cond, eqb, ltb, not, ◌||◌, ◌&&◌, List, [], ◌∷◌, ◌++◌, map, length, get_or, refl, sym, ◌∙◌, ap, arith, Option, Some, None, inl, inr, subst, ◌⊎◌}
-use Rattle.std.specs.Prelude.{count_by, find, filter, slice_get, option_map, is_some, is_none, unwrap_or}
-use Rattle.std.proofs.lemmas.Bool.{cases_Bool, eqb-true, lt-ltb}
-use Rattle.std.proofs.lemmas.Bool.Decides.{nat_tests}
+use Rattle.std.proofs.Common.{◌≡◌, ℕ, suc, ◌<◌, Bool, true, eqb, ltb, List, [], ◌∷◌, ◌++◌, map, length, get_or, refl, ◌∙◌, ap, arith, Option, Some, None, inl, inr, subst}
+use Rattle.std.specs.Prelude.{find, slice_get, option_map, is_some, unwrap_or}
+use Rattle.std.proofs.lemmas.Bool.{cases_Bool, lt-ltb}
 use Rattle.qccd_base.specs.Names.{segment}
 use Rattle.qccd_base.specs.declared.names.Qubit.{Qubit}
 use Rattle.qccd_base.specs.declared.names.TrapId.{TrapId}
@@ -11,18 +10,17 @@ use Rattle.qccd_base.specs.declared.names.SegEnd.{SegEnd}
 use Rattle.qccd_base.specs.declared.names.SegEnd.TheVariants.{A, B}
 use Rattle.qccd_base.specs.declared.names.End.{End}
 use Rattle.qccd_base.specs.declared.names.End.TheVariants.{Left, Right}
-use Rattle.qccd_machine.specs.declared.place.Place.{Place}
 use Rattle.qccd_machine.specs.declared.place.Place.TheVariants.{TrapEnd, Junction}
 use Rattle.qccd_machine.specs.Machine.{MachineData}
 use Rattle.time_heat.specs.Heat.{split_ion_heat}
-use Rattle.op_table.specs.declared.kinds.OpKind.TheVariants.{Split, Move, Enter, Leave, Merge, Rot, GSwap}
-use Rattle.op_table.specs.State.{IonPlace, InTrap, OnSegment, InJunction, Stand, State, is_in_trap, is_at, is_on_segment, is_in_junction, ions_in, rider_on, rider_in, heat_of}
+use Rattle.op_table.specs.declared.kinds.OpKind.TheVariants.{Split, Move, Enter, Leave, Merge}
+use Rattle.op_table.specs.State.{IonPlace, InTrap, OnSegment, InJunction, Stand, State, is_on_segment, is_in_junction, ions_in, rider_on, rider_in, heat_of}
 use Rattle.op_table.specs.Step.{why, effect, end_at, has_trap, has_segment, has_junction, rider_stands, same_seg_end, other_end, split_place}
 use Rattle.chain_reorder.specs.Layout.{Layout, Lies, listed, with_at, riding, end_on, joined, settled, on_segment, in_junction}
 use Rattle.chain_reorder.proofs.Lists.{found}
-use Rattle.chain_reorder.proofs.Steps.{at_own, at_other, eqb_same}
+use Rattle.chain_reorder.proofs.Steps.{at_own, eqb_same}
 use Rattle.chain_reorder.proofs.Paths.{replaced, lies_moved}
-use Rattle.chain_reorder.proofs.Crossing.{enter_place, exit_place, lies_entered, lies_exited}
+use Rattle.chain_reorder.proofs.Crossing.{exit_place, lies_entered, lies_exited}
 use Rattle.chain_reorder.proofs.Ends.{lies_split_off}
 use Rattle.chain_reorder.proofs.Merging.{lies_merged_onto}
 

@@ -1,6 +1,6 @@
 -- Lists under a map that a test sees through.
-use Rattle.std.proofs.Common.{◌≡◌, ℕ, zero, suc, ◌+◌, ◌<◌, Bool, true, false, cond, ◌||◌, List, [], ◌∷◌, ◌++◌, map, length, refl, sym, ◌∙◌, ap, arith, Option, Some, None, inl, inr}
-use Rattle.std.specs.Prelude.{count_by, find, filter, slice_get, option_map}
+use Rattle.std.proofs.Common.{◌≡◌, suc, ◌+◌, Bool, true, false, cond, ◌||◌, List, [], ◌∷◌, map, length, refl, sym, ◌∙◌, ap, arith, Option, Some, None, inl, inr}
+use Rattle.std.specs.Prelude.{count_by, find, filter, option_map}
 use Rattle.std.proofs.lemmas.List.Sums.{sum_by-cons, length-filter}
 use Rattle.std.proofs.lemmas.Bool.{cases_Bool}
 use Rattle.chain_reorder.specs.Layout.{listed}

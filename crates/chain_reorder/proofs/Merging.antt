@@ -1,7 +1,7 @@
 -- Onto the end of a chain.
-use Rattle.std.proofs.Common.{◌≡◌, ℕ, zero, suc, ◌+◌, ◌-◌, ◌<◌, ◌≤◌, Bool, true, false, cond, eqb, ltb, not, ◌||◌, ◌&&◌, List, [], ◌∷◌, ◌++◌, map, length, take, drop, refl, sym, ◌∙◌, ap, arith, Option, Some, None, inl, inr, subst, ◌⊎◌, add-one, length-append}
-use Rattle.std.specs.Prelude.{count_by, find, filter, slice_get, option_map}
-use Rattle.std.proofs.lemmas.Bool.{cases_Bool, eqb-true, eqb-false}
+use Rattle.std.proofs.Common.{◌≡◌, ℕ, zero, suc, ◌+◌, Bool, true, false, cond, eqb, ◌||◌, List, [], ◌∷◌, ◌++◌, map, length, refl, sym, ◌∙◌, ap, arith, Some, None, inl, inr, ◌⊎◌, add-one, length-append}
+use Rattle.std.specs.Prelude.{count_by, filter, slice_get}
+use Rattle.std.proofs.lemmas.Bool.{cases_Bool, eqb-true}
 use Rattle.std.proofs.lemmas.Bool.Decides.{nat_tests}
 use Rattle.qccd_base.specs.declared.names.Qubit.{Qubit}
 use Rattle.qccd_base.specs.declared.names.SegEnd.{SegEnd}
@@ -9,9 +9,9 @@ use Rattle.qccd_base.specs.declared.names.End.{End}
 use Rattle.qccd_base.specs.declared.names.End.TheVariants.{Left, Right}
 use Rattle.op_table.specs.State.{IonPlace, InTrap, OnSegment, InJunction, Stand, State, is_in_trap, is_at, is_on_segment, is_in_junction, ions_in}
 use Rattle.op_table.specs.Step.{merge_place, shifted_up}
-use Rattle.chain_reorder.specs.Layout.{Layout, Lies, listed, with_at, riding, end_on, joined}
+use Rattle.chain_reorder.specs.Layout.{Layout, Lies, listed, with_at, riding, joined}
 use Rattle.chain_reorder.proofs.Lists.{count_more, nothing_from, counted, filter_none}
-use Rattle.chain_reorder.proofs.Steps.{at_own, at_other, eqb_same, or_false}
+use Rattle.chain_reorder.proofs.Steps.{at_own, at_other, eqb_same}
 use Rattle.chain_reorder.proofs.Paths.{replaced, kept_count, kept_chain, kept_rider, kept_carry, gone, came, viewed}
 use Rattle.chain_reorder.proofs.Ends.{get_past, get_before, get_last}
 

@@ -1,15 +1,15 @@
 -- What operations off the traps do to a layout.
-use Rattle.std.proofs.Common.{◌≡◌, ℕ, zero, suc, ◌+◌, ◌-◌, ◌<◌, ◌≤◌, Bool, true, false, cond, eqb, ltb, ◌||◌, ◌&&◌, List, [], ◌∷◌, ◌++◌, map, length, refl, sym, ◌∙◌, ap, arith, Option, Some, None, inl, inr, subst, ◌⊎◌}
-use Rattle.std.specs.Prelude.{count_by, find, filter, slice_get, option_map}
+use Rattle.std.proofs.Common.{◌≡◌, ℕ, Bool, true, false, eqb, ◌||◌, List, [], ◌∷◌, map, length, refl, sym, ◌∙◌, ap, arith, Option, Some, None, inl, inr}
+use Rattle.std.specs.Prelude.{count_by, filter, slice_get, option_map}
 use Rattle.std.proofs.lemmas.Bool.{cases_Bool, eqb-true}
 use Rattle.std.proofs.lemmas.Bool.Decides.{nat_tests}
 use Rattle.qccd_base.specs.declared.names.Qubit.{Qubit}
 use Rattle.qccd_base.specs.declared.names.SegEnd.{SegEnd}
 use Rattle.op_table.specs.State.{IonPlace, InTrap, OnSegment, InJunction, Stand, State, is_in_trap, is_at, is_on_segment, is_in_junction, ions_in}
-use Rattle.op_table.specs.Step.{move_place, other_end, split_place, merge_place, shifted_down, shifted_up}
+use Rattle.op_table.specs.Step.{move_place, other_end}
 use Rattle.chain_reorder.specs.Layout.{Layout, Lies, listed, with_at, riding, end_on}
-use Rattle.chain_reorder.proofs.Lists.{count_seen, count_more, count_less, filter_none, seen, nothing_from, found, counted}
-use Rattle.chain_reorder.proofs.Steps.{same_seen, at_own, at_other, rechained, eqb_same, or_false}
+use Rattle.chain_reorder.proofs.Lists.{count_seen, filter_none, seen}
+use Rattle.chain_reorder.proofs.Steps.{same_seen, at_own, at_other, eqb_same}
 
 abbrev pub replaced : (IonPlace → IonPlace) → Stand → Stand
 replaced f w = record w { place = f w.place }

@@ -1,6 +1,6 @@
 -- A qubit goes to an end of its chain.
-use Rattle.std.proofs.Common.{◌≡◌, ℕ, zero, suc, ◌+◌, ◌-◌, ◌<◌, ◌≤◌, Bool, true, false, cond, eqb, ltb, not, ◌||◌, ◌&&◌, List, [], ◌∷◌, ◌++◌, map, length, refl, sym, ◌∙◌, ap, arith, Option, Some, None, inl, inr, subst, ◌⊎◌, length-append, append-nil}
-use Rattle.std.specs.Prelude.{◌==◌, count_by, filter, slice_get, option_map}
+use Rattle.std.proofs.Common.{◌≡◌, ℕ, zero, suc, ◌+◌, ◌-◌, ◌<◌, ◌≤◌, true, false, eqb, ltb, List, [], ◌∷◌, ◌++◌, map, length, refl, sym, ◌∙◌, ap, arith, Option, Some, None, inl, inr, subst, ◌⊎◌, length-append, append-nil}
+use Rattle.std.specs.Prelude.{◌==◌, count_by, filter, slice_get}
 use Rattle.std.proofs.lemmas.Bool.{cases_Bool, eqb-true, lt-ltb}
 use Rattle.std.proofs.lemmas.Bool.Decides.{nat_tests}
 use Rattle.qccd_base.specs.Names.{trap}

@@ -1,17 +1,12 @@
 -- The operations run wherever the qubit stands, whatever is on the way elsewhere.
-use Rattle.std.proofs.Common.{arith, ◌≡◌, ◌≢◌, ℕ, zero, suc, ◌+◌, ◌-◌, ◌<◌, ◌≤◌, ◌==◌, inl, inr, Bool, true, false, List, [], ◌∷◌, ◌++◌, map, length, get_or, refl, sym, ◌∙◌, ap, subst, Option, Some, None, count_by, if◌then◌else◌, append-nil}
-use Rattle.std.proofs.lemmas.Bool.{cases_eq, eq-eqb, ltb-true, lt-ltb, ne_eqb}
+use Rattle.std.proofs.Common.{arith, ◌≡◌, ℕ, zero, suc, ◌+◌, ◌-◌, ◌<◌, ◌==◌, inl, inr, Bool, true, false, [], ◌∷◌, refl, sym, ◌∙◌, ap, None, if◌then◌else◌}
+use Rattle.std.proofs.lemmas.Bool.{cases_eq, eq-eqb, lt-ltb, ne_eqb}
 use Rattle.qccd_base.specs.Names.{trap}
-use Rattle.qccd_base.specs.declared.names.Qubit.{Qubit}
-use Rattle.qccd_base.specs.declared.names.TrapId.{TrapId}
-use Rattle.qccd_base.specs.declared.names.End.{End}
 use Rattle.qccd_base.specs.declared.names.End.TheVariants.{Left, Right}
-use Rattle.qccd_base.specs.declared.names.Mode.{Mode}
-use Rattle.qccd_base.specs.declared.names.Mode.TheVariants.{IonSwap, GateSwap}
+use Rattle.qccd_base.specs.declared.names.Mode.TheVariants.{GateSwap}
 use Rattle.qccd_machine.specs.Machine.{MachineData}
-use Rattle.op_table.specs.declared.kinds.OpKind.{OpKind}
 use Rattle.op_table.specs.declared.kinds.OpKind.TheVariants.{Rot, GSwap}
-use Rattle.op_table.specs.State.{IonPlace, InTrap, OnSegment, InJunction, Stand, State, ions_in, is_in_trap, IsSafe}
+use Rattle.op_table.specs.State.{IonPlace, InTrap, OnSegment, InJunction, Stand, State, ions_in, is_in_trap}
 use Rattle.op_table.specs.Step.{why, effect, has_trap, rotated}
 use Rattle.op_table.specs.Run.{IsRun}
 use Rattle.op_table.proofs.Counts.{count_by-map, count_same}

@@ -1,17 +1,13 @@
 -- What each operation does to a layout.
-use Rattle.std.proofs.Common.{◌≡◌, ℕ, zero, suc, ◌+◌, ◌-◌, ◌<◌, ◌≤◌, Bool, true, false, cond, eqb, ltb, ◌||◌, ◌&&◌, List, [], ◌∷◌, ◌++◌, map, length, refl, sym, ◌∙◌, ap, arith, Option, Some, None, inl, inr, subst}
-use Rattle.std.specs.Prelude.{count_by, find, filter, slice_get, option_map}
+use Rattle.std.proofs.Common.{◌≡◌, ℕ, Bool, true, false, eqb, ◌||◌, List, map, length, refl, sym, ◌∙◌, ap, arith, inl, inr}
+use Rattle.std.specs.Prelude.{count_by, filter, slice_get}
 use Rattle.std.proofs.lemmas.Bool.{cases_Bool, eqb-true}
 use Rattle.std.proofs.lemmas.Bool.Decides.{nat_tests}
 use Rattle.qccd_base.specs.declared.names.Qubit.{Qubit}
-use Rattle.qccd_base.specs.declared.names.TrapId.{TrapId}
-use Rattle.qccd_machine.specs.Machine.{MachineData}
-use Rattle.op_table.specs.State.{IonPlace, InTrap, OnSegment, InJunction, Stand, State, is_in_trap, is_at, is_on_segment, is_in_junction, ions_in}
-use Rattle.op_table.specs.declared.kinds.OpKind.{OpKind}
-use Rattle.op_table.specs.declared.kinds.OpKind.TheVariants.{Split, Move, Enter, Leave, Merge, Rot, GSwap}
-use Rattle.op_table.specs.Step.{why, effect, rotated, exchanged}
+use Rattle.op_table.specs.State.{IonPlace, InTrap, OnSegment, InJunction, Stand, State, is_in_trap, is_at, is_on_segment, is_in_junction}
+use Rattle.op_table.specs.Step.{rotated, exchanged}
 use Rattle.chain_reorder.specs.Layout.{Layout, Lies, listed, with_at, riding, end_on}
-use Rattle.chain_reorder.proofs.Lists.{count_seen, count_more, count_less, filter_none, seen, nothing_from, found, counted}
+use Rattle.chain_reorder.proofs.Lists.{count_seen, filter_none, seen}
 
 exchanged_back : (a b i k : ℕ) → eqb (exchanged a b i) k ≡ eqb i (exchanged a b k)
 exchanged_back a b i k = grind (nat_tests, arith)

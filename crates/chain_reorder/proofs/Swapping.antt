@@ -1,12 +1,12 @@
 -- An exchange of the qubits of two ions, on a layout.
-use Rattle.std.proofs.Common.{◌≡◌, ℕ, zero, suc, ◌+◌, ◌-◌, ◌<◌, ◌≤◌, Bool, true, false, cond, eqb, ltb, not, ◌||◌, ◌&&◌, List, [], ◌∷◌, ◌++◌, map, length, refl, sym, ◌∙◌, ap, arith, Option, Some, None, inl, inr, subst, ◌⊎◌}
-use Rattle.std.specs.Prelude.{count_by, find, filter, slice_get, option_map, unwrap_or}
+use Rattle.std.proofs.Common.{◌≡◌, ℕ, ◌<◌, true, false, eqb, List, map, length, refl, sym, ◌∙◌, ap, arith, Option, Some, inl, inr}
+use Rattle.std.specs.Prelude.{count_by, filter, slice_get}
 use Rattle.std.proofs.lemmas.Bool.{cases_Bool, eqb-true}
 use Rattle.std.proofs.lemmas.Bool.Decides.{nat_tests}
 use Rattle.qccd_base.specs.declared.names.Qubit.{Qubit}
-use Rattle.op_table.specs.State.{IonPlace, InTrap, OnSegment, InJunction, Stand, State, is_in_trap, is_at, is_on_segment, is_in_junction, ions_in, qubit_at}
+use Rattle.op_table.specs.State.{IonPlace, InTrap, OnSegment, InJunction, Stand, State, is_in_trap, is_at, is_on_segment, is_in_junction, qubit_at}
 use Rattle.op_table.specs.Step.{exchanged, swapped}
-use Rattle.chain_reorder.specs.Layout.{Layout, Lies, listed, with_at, riding, end_on}
+use Rattle.chain_reorder.specs.Layout.{Layout, Lies, listed, riding, end_on}
 use Rattle.chain_reorder.proofs.Lists.{count_seen, found}
 use Rattle.chain_reorder.proofs.Steps.{same_seen, at_own, at_other, eqb_same, rechained}
 use Rattle.chain_reorder.proofs.Paths.{viewed_as}

@@ -1,5 +1,5 @@
 -- Where operations bring a qubit.
-use Rattle.std.specs.Prelude.{◌≡◌, ℕ, ◌==◌, List, ◌++◌, count_by}
+use Rattle.std.specs.Prelude.{◌≡◌, ℕ, ◌==◌, List, count_by}
 use Rattle.qccd_base.specs.declared.names.Qubit.{Qubit}
 use Rattle.qccd_base.specs.declared.names.End.{End}
 use Rattle.qccd_machine.specs.Machine.{MachineData}

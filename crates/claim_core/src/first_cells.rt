@@ -1,6 +1,6 @@
 //! The cells before the first operation of a program.
 
-ghost use Rattle.std.specs.Prelude.{◌≡◌, ◌<◌, ◌≤◌, ℕ, true, All, IfOk, Some, length, map, slice_get};
+ghost use Rattle.std.specs.Prelude.{◌≡◌, ◌<◌, ◌≤◌, ℕ, true, All, IfOk, Some, length, slice_get};
 ghost use Rattle.qccd_base.specs.declared.names.Res.{Res};
 ghost use Rattle.qccd_base.specs.Resource.{among};
 ghost use Rattle.op_table.specs.declared.kinds.OpKind.{OpKind};
@@ -8,15 +8,13 @@ ghost use Rattle.op_table.specs.Touch.{touches};
 ghost use Rattle.op_cells.specs.Numbering.{index_of, IsThere};
 ghost use Rattle.claim_core.specs.AllCells.{AtStep};
 ghost use Rattle.claim_core.specs.CellOfRun.{firsts};
-ghost use Rattle.claim_core.specs.First.{start_entry, IsContentAt};
+ghost use Rattle.claim_core.specs.First.{IsContentAt};
 ghost use Rattle.claim_core.specs.Turns.{Counts, first_counted};
 
 use crate::program::Program;
-use crate::turn_table::{count_of, index_of};
-use arrayvec::ArrayVec;
-use op_cells::{Cell, Cells, DoneList};
-use op_table::{Content, Entry, Op};
-use qccd_base::{Ion, NoMemory, Qubit, Res, TrapId};
+use op_cells::{Cell, Cells, DoneList, count_of, index_of, start_chain};
+use op_table::{Content, Op};
+use qccd_base::{NoMemory, Res, TrapId};
 use qccd_machine::Machine;
 use std::alloc::Global;
 
@@ -45,21 +43,6 @@ fn rooms(alloc: Global, machine: &Machine, bits: u16, ops: &[Op]) -> Result<Vec<
         count_first(machine, op.touches(), &mut rooms);
     }
     Ok(rooms)
-}
-
-// The chain of these ions, each with the qubit of its number.
-fn start_chain(ions: &[Ion]) -> ArrayVec<Entry, 32>
-    requires { length ions.now ≤ 32 }
-    ensures { result.items ≡ map start_entry ions.now }
-{
-    let mut chain = ArrayVec::new();
-    for ion in ions {
-        chain.push(Entry {
-            ion: *ion,
-            qubit: Qubit(ion.0),
-        });
-    }
-    chain
 }
 
 // What the resource with that number holds before the first operation.

@@ -8,6 +8,7 @@ ghost use Rattle.op_table.specs.Touch.{touches};
 ghost use Rattle.op_cells.specs.Numbering.{count_of, index_of, IsThere};
 ghost use Rattle.claim_core.specs.Turns.{HasTurns, counted, found};
 
+use op_cells::{count_of, index_of};
 use op_table::Op;
 use qccd_base::{NoMemory, Res};
 use qccd_machine::Machine;
@@ -18,32 +19,6 @@ use std::alloc::Global;
 pub(crate) struct TurnTable {
     pub(crate) starts: Vec<u32>,
     pub(crate) turns: Vec<u32>,
-}
-
-/// How many resources there are: a machine has no more than 224 besides the bits.
-pub(crate) fn count_of(machine: &Machine, bits: u16) -> usize
-    ensures count { result ≡ count_of machine.now bits }
-    ensures few { result ≤ 224 + bits }
-{
-    usize::from(machine.traps())
-        + usize::from(machine.segments())
-        + usize::from(machine.junctions())
-        + usize::from(bits)
-}
-
-/// The number of a resource among all.
-pub(crate) fn index_of(machine: &Machine, r: Res) -> usize
-    ensures { result ≡ index_of machine.now r }
-{
-    let traps = usize::from(machine.traps());
-    let segments = usize::from(machine.segments());
-    let junctions = usize::from(machine.junctions());
-    match r {
-        Res::Trap(t) => usize::from(t.0),
-        Res::Seg(g) => traps + usize::from(g.0),
-        Res::Junc(j) => traps + segments + usize::from(j.0),
-        Res::Bit(b) => traps + segments + junctions + usize::from(b.0),
-    }
 }
 
 // Notes the counter of each resource, and counts it.

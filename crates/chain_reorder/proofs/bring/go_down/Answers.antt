@@ -1,9 +1,8 @@
-use Rattle.std.proofs.Common.{◌≡◌, suc, ◌-◌, ◌+◌, ◌≤◌, ◌∷◌, arith, length, refl, ap}
-use Rattle.qccd_base.specs.Names.{trap}
+use Rattle.std.proofs.Common.{◌≡◌, suc, ◌-◌, arith}
 use Rattle.op_table.specs.declared.kinds.OpKind.TheVariants.{Rot}
 use Rattle.op_plan.specs.Plan.{with_ops}
 use Rattle.chain_reorder.specs.Reorder.{rots_down}
-use Rattle.chain_reorder.proofs.Emitting.{ends, first_runs, stepped}
+use Rattle.chain_reorder.proofs.Emitting.{first_runs, stepped}
 use Rattle.chain_reorder.proofs.Running.{down_one}
 use Rattle.chain_reorder.proofs.bring.go_down.Goals as goal
 

@@ -1,9 +1,8 @@
-use Rattle.std.proofs.Common.{◌≡◌, suc, ◌-◌, ◌+◌, ◌≤◌, ◌∷◌, arith, length, refl, ap, ◌∙◌, sym, subst, ℕ}
+use Rattle.std.proofs.Common.{◌≡◌, suc, ◌-◌, ◌+◌, arith}
 use Rattle.op_table.specs.declared.kinds.OpKind.TheVariants.{Rot}
-use Rattle.op_table.specs.Run.{IsRun}
-use Rattle.op_plan.specs.Plan.{state_of, wired, with_ops}
+use Rattle.op_plan.specs.Plan.{with_ops}
 use Rattle.chain_reorder.specs.Reorder.{rots_up}
-use Rattle.chain_reorder.proofs.Emitting.{ends, first_runs, stepped}
+use Rattle.chain_reorder.proofs.Emitting.{first_runs, stepped}
 use Rattle.chain_reorder.proofs.Running.{up_one}
 use Rattle.chain_reorder.proofs.bring.go_up.Goals as goal
 

@@ -1,5 +1,5 @@
-use Rattle.std.proofs.Common.{arith, ◌≡◌, ◌<◌, ◌≤◌, ◌+◌, ◌-◌, List, length, get_or, sym, ◌∙◌, ap, subst, OnOk}
-use Rattle.qccd_base.specs.declared.names.End.TheVariants.{Left, Right}
+use Rattle.std.proofs.Common.{arith, ◌≡◌, ◌-◌, List, length, sym, ◌∙◌, subst, OnOk}
+use Rattle.qccd_base.specs.declared.names.End.TheVariants.{Right}
 use Rattle.qccd_base.specs.declared.names.Mode.TheVariants.{IonSwap, GateSwap}
 use Rattle.op_table.specs.declared.kinds.OpKind.{OpKind}
 use Rattle.op_plan.specs.Plan.{state_of, wired, with_ops}
