@@ -1,4 +1,9 @@
+pub mod Order
 pub mod TimeOrder
+pub mod ItemOrder
 pub mod Report
+pub mod Summary
+pub mod Reports
 pub mod Bell
 pub mod Scattered
+pub mod Transported

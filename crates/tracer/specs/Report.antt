@@ -4,6 +4,7 @@ use Rattle.std.specs.List.{enumerate_from, range_with_len}
 use Rattle.qccd_base.specs.Greatest.{greatest}
 use Rattle.qccd_base.specs.Line.{line}
 use Rattle.qccd_base.specs.declared.names.Ion.{Ion}
+use Rattle.qccd_base.specs.declared.names.Qubit.{Qubit}
 use Rattle.qccd_base.specs.declared.names.SegEnd.{SegEnd}
 use Rattle.qccd_base.specs.declared.names.SegEnd.TheVariants.{A, B}
 use Rattle.qccd_circuit.specs.declared.kinds.ItemKind.{ItemKind}
@@ -34,8 +35,11 @@ abbrev pub op_line : ℕ × Timed → List ℕ
 op_line e = line (decimal e.0 ++ next_word (decimal e.1.start) ++ next_word (decimal e.1.finish) ++ next_word (op_text e.1.op))
 
 -- an ion and the qubit that it carries
+abbrev pub pair_text : ℕ → Qubit → List ℕ
+pair_text ion qubit = decimal ion ++ codes ":" ++ qubit_text qubit
+
 abbrev pub entry_text : ℕ × Stand → List ℕ
-entry_text e = decimal e.0 ++ codes ":" ++ qubit_text e.1.qubit
+entry_text e = pair_text e.0 e.1.qubit
 
 -- the ions of a state with their numbers
 abbrev pub numbered_ions : State → List (ℕ × Stand)
@@ -53,12 +57,20 @@ abbrev pub side_text : SegEnd → List ℕ
 side_text A = codes "a"
 side_text B = codes "b"
 
+-- the line of a segment that holds an ion: the end at which it stands, its heat, and what is told of it
+abbrev pub segment_line : ℕ → SegEnd → ℕ → List ℕ → List ℕ
+segment_line g side heat entry =
+    line (labelled (codes "end S") g ++ next_word (side_text side) ++ labelled (codes " heat ") heat ++ next_word entry)
+
+-- the line of a junction that holds an ion
+abbrev pub junction_line : ℕ → ℕ → List ℕ → List ℕ
+junction_line j heat entry = line (labelled (codes "end J") j ++ labelled (codes " heat ") heat ++ next_word entry)
+
 -- the line of an ion that the program leaves on a segment or in a junction
 abbrev pub stray_text : ℕ × Stand → IonPlace → List ℕ
 stray_text e (InTrap t k) = []
-stray_text e (OnSegment g side heat) = line (labelled (codes "end S") g ++ next_word (side_text side)
-    ++ labelled (codes " heat ") heat ++ next_word (entry_text e))
-stray_text e (InJunction j heat) = line (labelled (codes "end J") j ++ labelled (codes " heat ") heat ++ next_word (entry_text e))
+stray_text e (OnSegment g side heat) = segment_line g side heat (entry_text e)
+stray_text e (InJunction j heat) = junction_line j heat (entry_text e)
 
 abbrev pub stray_lines : State → (IonPlace → Bool) → List ℕ
 stray_lines s here = flat_map (λ e. stray_text e e.1.place) (filter (λ e. here e.1.place) (numbered_ions s))

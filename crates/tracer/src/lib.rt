@@ -1,4 +1,15 @@
-//! The report of a transport program. The definitions stand in `specs/`.
+//! The report of a transport program: its operations in the order of time, what is left at the end, and counts.
 #![tactic(auto)]
 
+mod counting;
+mod ends;
+pub mod laws;
+mod order;
+mod report;
 pub mod worked;
+
+pub use order::time_order;
+pub use report::{ReportFault, write_report, write_summary};
+
+#[cfg(test)]
+mod tests;

@@ -1,0 +1,10 @@
+pub mod Sharing
+pub mod Listed
+pub mod Ordered
+pub mod Kept
+pub mod Collected
+pub mod Ending
+pub mod Loops
+pub mod Tally
+pub mod Rows
+pub mod Written

@@ -1,0 +1,122 @@
+//! Operations counted by kind.
+
+ghost use Rattle.std.specs.Prelude.{◌≡◌, ◌<◌, ◌≤◌, ◌==◌, ◌++◌, ℕ, count_by, decimal, flat_map, get_or, length, slice_get, Some};
+ghost use Rattle.transport_asm.specs.OpText.{next_word};
+ghost use Rattle.std.specs.List.{enumerate_from};
+ghost use Rattle.qccd_io.specs.Sends.{Sends};
+ghost use Rattle.tracer.specs.Report.{column_of, columns, count_text, counts_line, item_column};
+
+use op_table::{Op, OpKind};
+use qccd_base::number_text;
+use qccd_circuit::ItemKind;
+use qccd_io::{Failed, Sink, send, send_all};
+
+// What the columns of the counts are called, in their order.
+const COLUMNS: [&str; 12] = [
+    "split", "merge", "move", "enter", "leave", "rot", "gswap", "gate1", "gate2", "measure",
+    "reset", "fence",
+];
+
+// The column in which an item of this kind stands, where it is done in a trap or over traps.
+fn item_column(kind: ItemKind) -> usize
+    ensures value { result ≡ item_column kind }
+    ensures there { result < 12 }
+{
+    match kind {
+        ItemKind::Gate1 => 7,
+        ItemKind::Gate2 => 8,
+        ItemKind::Measure => 9,
+        ItemKind::Reset => 10,
+        ItemKind::Barrier => 11,
+    }
+}
+
+// The column in which an operation stands.
+fn column_of(op: &Op) -> usize
+    ensures value { result ≡ column_of op.now }
+    ensures there { result < 12 }
+{
+    match op.kind() {
+        OpKind::Split {
+            trap: _,
+            end: _,
+            seg: _,
+        } => 0,
+        OpKind::Merge {
+            seg: _,
+            trap: _,
+            end: _,
+        } => 1,
+        OpKind::Move { seg: _ } => 2,
+        OpKind::Enter { seg: _, junc: _ } => 3,
+        OpKind::Leave { junc: _, seg: _ } => 4,
+        OpKind::Rot { trap: _, at: _ } => 5,
+        OpKind::GSwap {
+            trap: _,
+            low: _,
+            high: _,
+        } => 6,
+        OpKind::Item {
+            number: _,
+            trap: _,
+            item,
+            at: _,
+        } => item_column(item.kind()),
+        OpKind::Fence {
+            number: _,
+            item: _,
+            traps: _,
+        } => 11,
+    }
+}
+
+// How many of the operations stand in each column, counted in one pass.
+fn counts_of(ops: &[Op]) -> [u64; 12]
+    requires { length ops.now ≤ 4194304 }
+    ensures { (column : ℕ) → column < 12 → get_or result column 0 ≡ count_by (λ op. column_of op == column) ops.now }
+{
+    let mut counts = [0; 12];
+    for op in ops {
+        let column = column_of(op);
+        counts[column] += 1;
+    }
+    counts
+}
+
+fn send_count<S: Sink>(sink: &mut S, name: &str, count: u64) -> Result<(), Failed>
+    ensures { Sends S.taken S.faults S.behind sink.old sink.new result (next_word name.now ++ next_word (decimal count)) }
+{
+    let count = number_text(count);
+    send_all(sink, &[b" ", name.as_bytes(), b" ", count.as_bytes()])
+}
+
+// What a column is called.
+fn column_name(column: usize) -> &'static str
+    requires { column < 12 }
+    ensures { slice_get columns column ≡ Some result.now }
+{
+    COLUMNS[column]
+}
+
+// The name of each column and the count of the operations that stand in it.
+fn send_columns<S: Sink>(sink: &mut S, ops: &[Op]) -> Result<(), Failed>
+    requires { length ops.now ≤ 4194304 }
+    ensures { Sends S.taken S.faults S.behind sink.old sink.new result (flat_map (count_text ops.now) (enumerate_from 0 columns)) }
+{
+    let counts = counts_of(ops);
+    for column in 0..12 {
+        send_count(sink, column_name(column), counts[column])?;
+    }
+    Ok(())
+}
+
+/// Appends the line that tells how many operations of each kind there are. Where it fails, a prefix of the line
+/// was appended and the count of faults rose. It takes no memory.
+pub(crate) fn send_counts<S: Sink>(sink: &mut S, ops: &[Op]) -> Result<(), Failed>
+    requires { length ops.now ≤ 4194304 }
+    ensures { Sends S.taken S.faults S.behind sink.old sink.new result (counts_line ops.now) }
+{
+    send(sink, b"counts")?;
+    send_columns(sink, ops)?;
+    send(sink, b"\n")
+}

@@ -1,0 +1,313 @@
+//! What the cells hold at the end of a program, and the lines that tell it.
+
+ghost use Rattle.std.specs.Prelude.{◌≡◌, ◌<◌, ◌≤◌, ◌++◌, codes, flat_map, length, map};
+ghost use Rattle.std.specs.List.{range_with_len};
+ghost use Rattle.qccd_base.specs.Greatest.{greatest};
+ghost use Rattle.qccd_io.specs.Sends.{Sends};
+ghost use Rattle.op_table.specs.Act.{carry_in, chain_in, heat_in, rider_in};
+ghost use Rattle.op_table.specs.Contents.{content};
+ghost use Rattle.op_table.specs.State.{is_in_junction, is_on_segment};
+ghost use Rattle.op_cells.specs.Numbering.{index_of, IsThere};
+ghost use Rattle.claim_core.specs.AllCells.{AtEnd};
+ghost use Rattle.claim_core.specs.Program.{end_of};
+ghost use Rattle.transport_asm.specs.OpText.{next_word};
+ghost use Rattle.tracer.specs.Report.{end_line, end_lines, junction_line, labelled, last_finish, pair_text, segment_line, side_text, stray_lines};
+ghost use Rattle.tracer.specs.Summary.{traps_heat};
+
+use claim_core::Program;
+use op_cells::{Cell, Cells};
+use op_table::{Carry, Content, Entry, Rider};
+use qccd_base::{JuncId, Res, SegEnd, SegId, TrapId, number_text};
+use qccd_io::{Failed, Sink, send, send_all};
+use qccd_machine::Machine;
+
+// The number of a resource among all.
+fn index_of(machine: &Machine, r: Res) -> usize
+    ensures { result ≡ index_of machine.now r }
+{
+    let traps = usize::from(machine.traps());
+    let segments = usize::from(machine.segments());
+    let junctions = usize::from(machine.junctions());
+    match r {
+        Res::Trap(t) => usize::from(t.0),
+        Res::Seg(g) => traps + usize::from(g.0),
+        Res::Junc(j) => traps + segments + usize::from(j.0),
+        Res::Bit(b) => traps + segments + junctions + usize::from(b.0),
+    }
+}
+
+// What the resource holds at the end.
+fn held_at_end<'a>(program: &Program, cells: &'a Cells, r: Res) -> &'a Content
+    requires at_end { AtEnd program.now cells.now }
+    requires there { IsThere program.now.machine program.now.bits r }
+    ensures { result.now ≡ content (end_of program.now) r }
+{
+    &cells.as_slice()[index_of(program.machine(), r)].content
+}
+
+// The ions of a trap; nothing else has any.
+fn chain_in(content: &Content) -> &[Entry]
+    ensures { result.now ≡ chain_in content.now }
+{
+    match content {
+        Content::Trap { chain, heat: _ } => chain.as_slice(),
+        Content::Seg { rider: _ } => &[],
+        Content::Junc { carry: _ } => &[],
+        Content::Bit => &[],
+    }
+}
+
+// The heat of a trap, in thousandths; nothing else has any.
+fn heat_in(content: &Content) -> u64
+    ensures { result ≡ heat_in content.now }
+{
+    match content {
+        Content::Trap { chain: _, heat } => *heat,
+        Content::Seg { rider: _ } => 0,
+        Content::Junc { carry: _ } => 0,
+        Content::Bit => 0,
+    }
+}
+
+// The ion on a segment; nothing else has one.
+fn rider_in(content: &Content) -> Option<Rider>
+    ensures { result ≡ rider_in content.now }
+{
+    match content {
+        Content::Trap { chain: _, heat: _ } => None,
+        Content::Seg { rider } => *rider,
+        Content::Junc { carry: _ } => None,
+        Content::Bit => None,
+    }
+}
+
+// The ion in a junction; nothing else has one.
+fn carry_in(content: &Content) -> Option<Carry>
+    ensures { result ≡ carry_in content.now }
+{
+    match content {
+        Content::Trap { chain: _, heat: _ } => None,
+        Content::Seg { rider: _ } => None,
+        Content::Junc { carry } => *carry,
+        Content::Bit => None,
+    }
+}
+
+// An ion and the qubit that it carries, as a further word.
+fn send_entry<S: Sink>(sink: &mut S, entry: Entry) -> Result<(), Failed>
+    ensures { Sends S.taken S.faults S.behind sink.old sink.new result (next_word (pair_text entry.ion.0 entry.qubit)) }
+{
+    let ion = number_text(u64::from(entry.ion.0));
+    let qubit = number_text(u64::from(entry.qubit.0));
+    send_all(sink, &[b" ", ion.as_bytes(), b":q", qubit.as_bytes()])
+}
+
+fn send_entries<S: Sink>(sink: &mut S, entries: &[Entry]) -> Result<(), Failed>
+    ensures { Sends S.taken S.faults S.behind sink.old sink.new result (flat_map (λ e. next_word (pair_text e.ion.0 e.qubit)) entries.now) }
+{
+    for entry in entries {
+        send_entry(sink, *entry)?;
+    }
+    Ok(())
+}
+
+// What stands before the ions of a trap's line.
+fn send_heat<S: Sink>(sink: &mut S, t: TrapId, heat: u64) -> Result<(), Failed>
+    ensures { Sends S.taken S.faults S.behind sink.old sink.new result (labelled (codes "end T") t.0 ++ labelled (codes " heat ") heat) }
+{
+    let trap = number_text(u64::from(t.0));
+    let heat = number_text(heat);
+    send_all(
+        sink,
+        &[b"end T", trap.as_bytes(), b" heat ", heat.as_bytes()],
+    )
+}
+
+fn send_trap_end<S: Sink>(
+    sink: &mut S,
+    program: &Program,
+    cells: &Cells,
+    t: TrapId,
+) -> Result<(), Failed>
+    requires at_end { AtEnd program.now cells.now }
+    requires there { t.0 < length program.now.machine.capacities }
+    ensures { Sends S.taken S.faults S.behind sink.old sink.new result (end_line (end_of program.now) t.0) }
+{
+    let held = held_at_end(program, cells, Res::Trap(t));
+    send_heat(sink, t, heat_in(held))?;
+    send_entries(sink, chain_in(held))?;
+    send(sink, b"\n")
+}
+
+fn send_trap_ends<S: Sink>(sink: &mut S, program: &Program, cells: &Cells) -> Result<(), Failed>
+    requires { AtEnd program.now cells.now }
+    ensures { Sends S.taken S.faults S.behind sink.old sink.new result (flat_map (end_line (end_of program.now)) (range_with_len 0 (length program.now.machine.capacities))) }
+{
+    for t in 0..program.machine().traps() {
+        send_trap_end(sink, program, cells, TrapId(t))?;
+    }
+    Ok(())
+}
+
+// The name of an end of a segment.
+fn side_word(end: SegEnd) -> &'static [u8]
+    ensures { result.now ≡ side_text end }
+{
+    match end {
+        SegEnd::A => b"a",
+        SegEnd::B => b"b",
+    }
+}
+
+fn send_rider<S: Sink>(sink: &mut S, g: SegId, rider: Rider) -> Result<(), Failed>
+    ensures { Sends S.taken S.faults S.behind sink.old sink.new result (segment_line g.0 rider.end rider.heat (pair_text rider.entry.ion.0 rider.entry.qubit)) }
+{
+    let segment = number_text(u64::from(g.0));
+    let heat = number_text(rider.heat);
+    let ion = number_text(u64::from(rider.entry.ion.0));
+    let qubit = number_text(u64::from(rider.entry.qubit.0));
+    send_all(
+        sink,
+        &[
+            b"end S",
+            segment.as_bytes(),
+            b" ",
+            side_word(rider.end),
+            b" heat ",
+            heat.as_bytes(),
+            b" ",
+            ion.as_bytes(),
+            b":q",
+            qubit.as_bytes(),
+            b"\n",
+        ],
+    )
+}
+
+fn send_segment_end<S: Sink>(
+    sink: &mut S,
+    program: &Program,
+    cells: &Cells,
+    g: SegId,
+) -> Result<(), Failed>
+    requires at_end { AtEnd program.now cells.now }
+    requires there { g.0 < length program.now.machine.segments }
+    ensures { Sends S.taken S.faults S.behind sink.old sink.new result (stray_lines (end_of program.now) (is_on_segment g.0)) }
+{
+    let _ops = program.ops();
+    let held = held_at_end(program, cells, Res::Seg(g));
+    match rider_in(held) {
+        None => Ok(()),
+        Some(rider) => send_rider(sink, g, rider),
+    }
+}
+
+fn send_segment_ends<S: Sink>(sink: &mut S, program: &Program, cells: &Cells) -> Result<(), Failed>
+    requires { AtEnd program.now cells.now }
+    ensures { Sends S.taken S.faults S.behind sink.old sink.new result (flat_map (λ g. stray_lines (end_of program.now) (is_on_segment g)) (range_with_len 0 (length program.now.machine.segments))) }
+{
+    for g in 0..program.machine().segments() {
+        send_segment_end(sink, program, cells, SegId(g))?;
+    }
+    Ok(())
+}
+
+fn send_carry<S: Sink>(sink: &mut S, j: JuncId, carry: Carry) -> Result<(), Failed>
+    ensures { Sends S.taken S.faults S.behind sink.old sink.new result (junction_line j.0 carry.heat (pair_text carry.entry.ion.0 carry.entry.qubit)) }
+{
+    let junction = number_text(u64::from(j.0));
+    let heat = number_text(carry.heat);
+    let ion = number_text(u64::from(carry.entry.ion.0));
+    let qubit = number_text(u64::from(carry.entry.qubit.0));
+    send_all(
+        sink,
+        &[
+            b"end J",
+            junction.as_bytes(),
+            b" heat ",
+            heat.as_bytes(),
+            b" ",
+            ion.as_bytes(),
+            b":q",
+            qubit.as_bytes(),
+            b"\n",
+        ],
+    )
+}
+
+fn send_junction_end<S: Sink>(
+    sink: &mut S,
+    program: &Program,
+    cells: &Cells,
+    j: JuncId,
+) -> Result<(), Failed>
+    requires at_end { AtEnd program.now cells.now }
+    requires there { j.0 < program.now.machine.junctions }
+    ensures { Sends S.taken S.faults S.behind sink.old sink.new result (stray_lines (end_of program.now) (is_in_junction j.0)) }
+{
+    let _ops = program.ops();
+    let held = held_at_end(program, cells, Res::Junc(j));
+    match carry_in(held) {
+        None => Ok(()),
+        Some(carry) => send_carry(sink, j, carry),
+    }
+}
+
+fn send_junction_ends<S: Sink>(sink: &mut S, program: &Program, cells: &Cells) -> Result<(), Failed>
+    requires { AtEnd program.now cells.now }
+    ensures { Sends S.taken S.faults S.behind sink.old sink.new result (flat_map (λ j. stray_lines (end_of program.now) (is_in_junction j)) (range_with_len 0 program.now.machine.junctions)) }
+{
+    for j in 0..program.machine().junctions() {
+        send_junction_end(sink, program, cells, JuncId(j))?;
+    }
+    Ok(())
+}
+
+/// Appends the lines that tell what is left where: one for each trap, then one for each segment and for each
+/// junction that holds an ion. Where it fails, a prefix of the lines was appended and the count of faults rose.
+/// It takes no memory.
+pub(crate) fn send_ends<S: Sink>(
+    sink: &mut S,
+    program: &Program,
+    cells: &Cells,
+) -> Result<(), Failed>
+    requires { AtEnd program.now cells.now }
+    ensures { Sends S.taken S.faults S.behind sink.old sink.new result (end_lines program.now) }
+{
+    send_trap_ends(sink, program, cells)?;
+    send_segment_ends(sink, program, cells)?;
+    send_junction_ends(sink, program, cells)
+}
+
+// The greatest of the clocks.
+fn greatest_clock(cells: &[Cell]) -> u64
+    ensures { result ≡ greatest (map (λ c. c.free_at) cells.now) }
+{
+    let mut most = 0;
+    for cell in cells {
+        most = cell.free_at.max(most);
+    }
+    most
+}
+
+/// When the last operation finishes, in microseconds; 0 where there is none.
+pub(crate) fn last_finish(program: &Program, cells: &Cells) -> u64
+    requires { AtEnd program.now cells.now }
+    ensures { result ≡ last_finish program.now }
+{
+    let _ops = program.ops();
+    greatest_clock(cells.as_slice())
+}
+
+/// The sum of the heats of all traps at the end, in thousandths.
+pub(crate) fn traps_heat(program: &Program, cells: &Cells) -> u64
+    requires { AtEnd program.now cells.now }
+    ensures { result ≡ traps_heat program.now }
+{
+    let _ops = program.ops();
+    let mut sum = 0;
+    for trap in 0..program.machine().traps() {
+        sum += heat_in(held_at_end(program, cells, Res::Trap(TrapId(trap))));
+    }
+    sum
+}

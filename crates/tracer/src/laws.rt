@@ -1,0 +1,23 @@
+//! What holds of every program. Each function does nothing: its contract is the law.
+
+ghost use Rattle.std.specs.Prelude.{◌≡◌};
+ghost use Rattle.std.specs.List.{enumerate_from};
+ghost use Rattle.op_table.specs.Clock.{timed};
+ghost use Rattle.op_table.specs.Run.{IsRun, after};
+ghost use Rattle.claim_core.specs.Legal.{IsLegalProgram};
+ghost use Rattle.claim_core.specs.Program.{ProgramData, opening_of, end_of};
+ghost use Rattle.tracer.specs.ItemOrder.{KeepsItemOrder};
+ghost use Rattle.tracer.specs.Order.{Alike};
+ghost use Rattle.tracer.specs.TimeOrder.{listed_ops, time_order, KeepsBoundsListed, KeepsOpOrder};
+
+/// The operations of a program in the order of time are all its operations, each once with its number and times,
+/// and a run too. It ends in the same state, keeps every bound, and keeps the order of each two operations that
+/// share a resource and of each two items that share an operand.
+pub fn listed_order()
+    ensures all { (p : ProgramData) → Alike (time_order p) (enumerate_from 0 (timed p.machine p.ops)) }
+    ensures run { (p : ProgramData) → IsLegalProgram p → IsRun p.machine (opening_of p) (listed_ops p) }
+    ensures end { (p : ProgramData) → IsLegalProgram p → after p.machine (opening_of p) (listed_ops p) ≡ end_of p }
+    ensures bounds { (p : ProgramData) → IsLegalProgram p → KeepsBoundsListed p }
+    ensures ops { (p : ProgramData) → KeepsOpOrder (time_order p) }
+    ensures items { (p : ProgramData) → IsLegalProgram p → KeepsItemOrder p.ops (listed_ops p) }
+{}

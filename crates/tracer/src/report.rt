@@ -1,0 +1,277 @@
+//! The report of a program, sent line by line.
+
+ghost use Rattle.std.specs.Prelude.{◌≡◌, ◌<◌, ◌++◌, Some, codes, decimal, flat_map, length, slice_get};
+ghost use Rattle.std.specs.List.{enumerate_from};
+ghost use Rattle.qccd_base.specs.Line.{line};
+ghost use Rattle.qccd_io.specs.Sends.{Sends};
+ghost use Rattle.claim_core.specs.AllCells.{AtEnd};
+ghost use Rattle.transport_asm.specs.OpText.{next_word};
+ghost use Rattle.tracer.specs.Order.{ordered};
+ghost use Rattle.tracer.specs.Report.{labelled, op_line, report_text, size_line, start_line};
+ghost use Rattle.tracer.specs.Summary.{summary_text};
+ghost use Rattle.tracer.specs.TimeOrder.{time_order};
+ghost use Rattle.tracer.specs.Reports.{Reports};
+
+use crate::counting::send_counts;
+use crate::ends::{last_finish, send_ends, traps_heat};
+use crate::order::time_order;
+use claim_core::Program;
+use op_cells::{Cells, Done};
+use op_table::Op;
+use qccd_base::{Ion, TrapId, number_text};
+use qccd_io::{Failed, Sink, send, send_all, send_labelled};
+use std::alloc::Global;
+use transport_asm::write_op;
+
+/// Why a report was not written.
+#[derive(Clone, Copy, Debug, PartialEq, Eq, Hash)]
+pub enum ReportFault {
+    /// The sink failed. A prefix of the report was appended.
+    Write,
+    /// Memory ran out. Nothing was appended.
+    NoMemory,
+}
+
+// A line of a label and a number.
+fn send_total<S: Sink>(sink: &mut S, label: &[u8], n: u64) -> Result<(), Failed>
+    ensures { Sends S.taken S.faults S.behind sink.old sink.new result (line (labelled label.now n)) }
+{
+    send_labelled(sink, label, n)?;
+    send(sink, b"\n")
+}
+
+// The numbers of qubits and bits.
+fn send_registers<S: Sink>(sink: &mut S, qubits: u16, bits: u16) -> Result<(), Failed>
+    ensures { Sends S.taken S.faults S.behind sink.old sink.new result (labelled (codes "qubits ") qubits ++ labelled (codes " bits ") bits) }
+{
+    let qubits = number_text(u64::from(qubits));
+    let bits = number_text(u64::from(bits));
+    send_all(
+        sink,
+        &[b"qubits ", qubits.as_bytes(), b" bits ", bits.as_bytes()],
+    )
+}
+
+// The numbers of the machine's parts, and the end of their line.
+fn send_parts<S: Sink>(sink: &mut S, traps: u8, segments: u8, junctions: u8) -> Result<(), Failed>
+    ensures { Sends S.taken S.faults S.behind sink.old sink.new result (line (labelled (codes " traps ") traps ++ labelled (codes " segments ") segments ++ labelled (codes " junctions ") junctions)) }
+{
+    let traps = number_text(u64::from(traps));
+    let segments = number_text(u64::from(segments));
+    let junctions = number_text(u64::from(junctions));
+    send_all(
+        sink,
+        &[
+            b" traps ",
+            traps.as_bytes(),
+            b" segments ",
+            segments.as_bytes(),
+            b" junctions ",
+            junctions.as_bytes(),
+            b"\n",
+        ],
+    )
+}
+
+fn send_sizes<S: Sink>(sink: &mut S, program: &Program) -> Result<(), Failed>
+    ensures { Sends S.taken S.faults S.behind sink.old sink.new result (size_line program.now) }
+{
+    let machine = program.machine();
+    send_registers(sink, program.qubits(), program.bits())?;
+    send_parts(
+        sink,
+        machine.traps(),
+        machine.segments(),
+        machine.junctions(),
+    )
+}
+
+fn send_ion<S: Sink>(sink: &mut S, ion: Ion) -> Result<(), Failed>
+    ensures { Sends S.taken S.faults S.behind sink.old sink.new result (next_word (decimal ion.0)) }
+{
+    send_labelled(sink, b" ", u64::from(ion.0))
+}
+
+// The ions of a start chain, each as a further word.
+fn send_ions<S: Sink>(sink: &mut S, ions: &[Ion]) -> Result<(), Failed>
+    ensures { Sends S.taken S.faults S.behind sink.old sink.new result (flat_map (λ i. next_word (decimal i.0)) ions.now) }
+{
+    for ion in ions {
+        send_ion(sink, *ion)?;
+    }
+    Ok(())
+}
+
+fn send_start_label<S: Sink>(sink: &mut S, t: TrapId) -> Result<(), Failed>
+    ensures { Sends S.taken S.faults S.behind sink.old sink.new result (labelled (codes "start T") t.0) }
+{
+    send_labelled(sink, b"start T", u64::from(t.0))
+}
+
+fn send_start<S: Sink>(sink: &mut S, t: TrapId, ions: &[Ion]) -> Result<(), Failed>
+    ensures { Sends S.taken S.faults S.behind sink.old sink.new result (start_line (t.0, ions.now)) }
+{
+    send_start_label(sink, t)?;
+    send_ions(sink, ions)?;
+    send(sink, b"\n")
+}
+
+fn send_starts<S: Sink>(sink: &mut S, program: &Program) -> Result<(), Failed>
+    ensures { Sends S.taken S.faults S.behind sink.old sink.new result (flat_map start_line (enumerate_from 0 program.now.start)) }
+{
+    let _ops = program.ops();
+    for t in 0..program.machine().traps() {
+        send_start(sink, TrapId(t), program.start(TrapId(t)))?;
+    }
+    Ok(())
+}
+
+// What stands before the text of an operation: its number, start and finish.
+fn send_times<S: Sink>(sink: &mut S, done: &Done) -> Result<(), Failed>
+    ensures { Sends S.taken S.faults S.behind sink.old sink.new result (decimal done.now.op ++ next_word (decimal done.now.start) ++ next_word (decimal done.now.finish)) }
+{
+    let number = number_text(u64::from(done.op));
+    let start = number_text(done.start);
+    let finish = number_text(done.finish);
+    send_all(
+        sink,
+        &[
+            number.as_bytes(),
+            b" ",
+            start.as_bytes(),
+            b" ",
+            finish.as_bytes(),
+        ],
+    )
+}
+
+fn send_op<S: Sink>(sink: &mut S, done: &Done, op: &Op) -> Result<(), Failed>
+    ensures { Sends S.taken S.faults S.behind sink.old sink.new result (op_line (done.now.op, record { op = op.now; start = done.now.start; finish = done.now.finish })) }
+{
+    send_times(sink, done)?;
+    send(sink, b" ")?;
+    write_op(op, sink)?;
+    send(sink, b"\n")
+}
+
+// The operation of this number.
+fn op_of(ops: &[Op], number: u32) -> &Op
+    requires { number < length ops.now }
+    ensures { slice_get ops.now number ≡ Some result.now }
+{
+    &ops[number as usize]
+}
+
+fn send_ops<S: Sink>(sink: &mut S, program: &Program, order: &[Done]) -> Result<(), Failed>
+    requires { order.now ≡ ordered program.now }
+    ensures { Sends S.taken S.faults S.behind sink.old sink.new result (flat_map op_line (time_order program.now)) }
+{
+    let ops = program.ops();
+    for done in order {
+        send_op(sink, done, op_of(ops, done.op))?;
+    }
+    Ok(())
+}
+
+// All that stands before the operations.
+fn send_front<S: Sink>(sink: &mut S, program: &Program) -> Result<(), Failed>
+    ensures { Sends S.taken S.faults S.behind sink.old sink.new result (line (codes "QCCD report 1") ++ size_line program.now ++ flat_map start_line (enumerate_from 0 program.now.start) ++ line (labelled (codes "ops ") (length program.now.ops))) }
+{
+    send(sink, b"QCCD report 1\n")?;
+    send_sizes(sink, program)?;
+    send_starts(sink, program)?;
+    send_total(sink, b"ops ", program.ops().len() as u64)
+}
+
+// The report of a program from its cells at the end and its operations in the order of time.
+fn send_report<S: Sink>(
+    sink: &mut S,
+    program: &Program,
+    cells: &Cells,
+    order: &[Done],
+) -> Result<(), Failed>
+    requires at_end { AtEnd program.now cells.now }
+    requires ordered { order.now ≡ ordered program.now }
+    ensures { Sends S.taken S.faults S.behind sink.old sink.new result (report_text program.now) }
+{
+    let ops = program.ops();
+    let finish = last_finish(program, cells);
+    send_front(sink, program)?;
+    send_ops(sink, program, order)?;
+    send_ends(sink, program, cells)?;
+    send_counts(sink, ops)?;
+    send_total(sink, b"finish ", finish)
+}
+
+/// Appends the report of the program, whose cells are those at its end. Refusals: `Write` where the sink failed,
+/// and then a prefix of the report was appended and its count of faults rose; `NoMemory` where memory ran out,
+/// and then nothing was appended: all memory is taken before the first byte.
+pub fn write_report<S: Sink>(
+    alloc: Global,
+    program: &Program,
+    cells: &Cells,
+    sink: &mut S,
+) -> Result<(), ReportFault>
+    requires { AtEnd program.now cells.now }
+    ensures { Reports S.taken S.faults S.behind sink.old sink.new result (report_text program.now) }
+{
+    let Ok(order) = time_order(alloc, program, cells) else {
+        return Err(ReportFault::NoMemory);
+    };
+    match send_report(sink, program, cells, order.as_slice()) {
+        Ok(()) => Ok(()),
+        Err(Failed) => Err(ReportFault::Write),
+    }
+}
+
+// The first line of a summary.
+fn send_rehearsal<S: Sink>(
+    sink: &mut S,
+    number: u32,
+    qubits: u16,
+    items: u32,
+    ops: u64,
+) -> Result<(), Failed>
+    ensures { Sends S.taken S.faults S.behind sink.old sink.new result (line (labelled (codes "rehearsal ") number ++ labelled (codes " qubits ") qubits ++ labelled (codes " items ") items ++ labelled (codes " ops ") ops)) }
+{
+    let number = number_text(u64::from(number));
+    let qubits = number_text(u64::from(qubits));
+    let items = number_text(u64::from(items));
+    let ops = number_text(ops);
+    send_all(
+        sink,
+        &[
+            b"rehearsal ",
+            number.as_bytes(),
+            b" qubits ",
+            qubits.as_bytes(),
+            b" items ",
+            items.as_bytes(),
+            b" ops ",
+            ops.as_bytes(),
+            b"\n",
+        ],
+    )
+}
+
+/// Appends the summary of the program that a rehearsal of this number compiled from so many items; the cells are
+/// those at its end. Where it fails, a prefix of the summary was appended and the count of faults rose. It takes
+/// no memory.
+pub fn write_summary<S: Sink>(
+    program: &Program,
+    cells: &Cells,
+    number: u32,
+    items: u32,
+    sink: &mut S,
+) -> Result<(), Failed>
+    requires { AtEnd program.now cells.now }
+    ensures { Sends S.taken S.faults S.behind sink.old sink.new result (summary_text program.now number items) }
+{
+    let ops = program.ops();
+    let heat = traps_heat(program, cells);
+    let finish = last_finish(program, cells);
+    send_rehearsal(sink, number, program.qubits(), items, ops.len() as u64)?;
+    send_counts(sink, ops)?;
+    send_total(sink, b"heat ", heat)?;
+    send_total(sink, b"finish ", finish)
+}
