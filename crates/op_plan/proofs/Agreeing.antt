@@ -1,5 +1,5 @@
 -- Machines that agree with a plan do the same: no state, cause or place depends on the times.
-use Rattle.std.proofs.Common.{◌≡◌, ℕ, List, [], ◌∷◌, length, refl, sym, subst, ◌∙◌, ap, Option, Some, slice_get, ◌+◌, ◌<◌}
+use Rattle.std.proofs.Common.{◌≡◌, ℕ, List, refl, sym, subst, ◌∙◌, ap, slice_get}
 use Rattle.qccd_base.specs.declared.names.Res.{Res}
 use Rattle.qccd_base.specs.declared.names.Res.TheVariants as res
 use Rattle.qccd_base.specs.declared.times.Times.{Times}
@@ -7,10 +7,8 @@ use Rattle.qccd_machine.specs.declared.place.Place.{Place}
 use Rattle.qccd_machine.specs.Machine.{MachineData}
 use Rattle.op_table.specs.declared.kinds.OpKind.{OpKind}
 use Rattle.op_table.specs.declared.kinds.OpKind.TheVariants.{Split, Move, Enter, Leave, Merge, Rot, GSwap, Item, Fence}
-use Rattle.op_table.specs.declared.kinds.Why.{Why}
 use Rattle.op_table.specs.State.{State, IsSafe}
 use Rattle.op_table.specs.Step.{why, effect}
-use Rattle.op_table.specs.Contents.{content}
 use Rattle.op_cells.specs.declared.cells.Cell.{Cell}
 use Rattle.op_cells.specs.Numbering.{index_of, IsThere}
 use Rattle.op_cells.specs.Shows.{Shows}

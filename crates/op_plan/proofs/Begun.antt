@@ -1,5 +1,5 @@
 -- What a plan begins with.
-use Rattle.std.proofs.Common.{arith, ◌≡◌, ◌≢◌, ℕ, zero, suc, ◌+◌, ◌<◌, ◌≤◌, ◌==◌, ◌&&◌, ◌||◌, inl, inr, Bool, true, false, cond, if◌then◌else◌, List, [], ◌∷◌, ◌++◌, map, length, take, drop, set, get_or, refl, sym, ◌∙◌, ap, ap₂, subst, Option, Some, None, option_map, slice_get, All, length-append, length-set, replicate, nat_lt, position}
+use Rattle.std.proofs.Common.{arith, ◌≡◌, ◌≢◌, ℕ, zero, suc, ◌+◌, ◌<◌, ◌≤◌, ◌==◌, ◌||◌, inl, inr, Bool, true, false, if◌then◌else◌, List, [], ◌∷◌, ◌++◌, map, length, take, drop, set, get_or, refl, sym, ◌∙◌, ap, subst, Option, Some, None, option_map, slice_get, All, length-append, length-set, position}
 use Rattle.std.specs.List.{list_any, range_with_len}
 use Rattle.std.proofs.lemmas.Bool.{and_parts, cases_Bool, cases_eq, cases_lt, eq-eqb, eqb-true, false≢true, lt-ltb, ne_eqb}
 use Rattle.std.proofs.lemmas.Option.{get_or_from_slice_get, same_Some, none-some, slice_get-get_or, slice_get_within, slice_get-map}
@@ -12,13 +12,12 @@ use Rattle.qccd_base.specs.declared.names.Res.TheVariants as res
 use Rattle.qccd_machine.specs.declared.place.Place.{Place}
 use Rattle.qccd_machine.specs.Machine.{MachineData, IsValid}
 use Rattle.op_table.specs.declared.kinds.OpKind.{OpKind}
-use Rattle.op_table.specs.declared.contents.Content.{Content}
 use Rattle.op_table.specs.declared.contents.Content.TheVariants as holds
 use Rattle.op_table.specs.declared.contents.Entry.{Entry}
 use Rattle.op_table.specs.Act.{trap_of}
 use Rattle.op_table.specs.Contents.{content}
 use Rattle.op_table.specs.Start.{IsStart}
-use Rattle.op_table.specs.State.{IonPlace, InTrap, OnSegment, InJunction, Stand, State, is_at, place_from, place_or, opening}
+use Rattle.op_table.specs.State.{IonPlace, InTrap, Stand, State, is_at, place_from, place_or, opening}
 use Rattle.op_table.proofs.Found.{any_at, any_from, at_own}
 use Rattle.op_table.proofs.Openings.{is_ion, ion_below, opening-safe, opening_long, place_in}
 use Rattle.op_table.proofs.Shared.{set-get}
@@ -30,10 +29,10 @@ use Rattle.op_cells.specs.Shows.{Shows}
 use Rattle.op_cells.proofs.Adjusting.{drop_next}
 use Rattle.op_cells.proofs.OpeningContents.{trap-start, seg-start, junc-start}
 use Rattle.op_plan.specs.Cold.{cold}
-use Rattle.op_plan.specs.Kept.{AreHomes, Keeps, settled}
+use Rattle.op_plan.specs.Kept.{AreHomes, Keeps, housed}
 use Rattle.op_plan.specs.Opening.{AreStart, IsOpeningAt}
 use Rattle.op_plan.specs.Place.{home}
-use Rattle.op_plan.specs.Plan.{PlanData, begun, plan_data, wired, state_of, IsPlan}
+use Rattle.op_plan.specs.Plan.{begun, plan_data}
 use Rattle.op_plan.proofs.Agreeing.{shown_agrees}
 use Rattle.op_plan.proofs.Cold.{content_cold}
 use Rattle.op_plan.proofs.Homes.{carrier_is, home_of, trap_at}
@@ -142,9 +141,9 @@ all_shown m qubits bits chains n cells is shown = record {
 
 -- ---- where the qubits are
 
-settled_long : (t : TrapId) (ions : List Ion) (traps : List (Option TrapId)) → length (settled t ions traps) ≡ length traps
-settled_long t [] traps = refl
-settled_long t (x ∷ ions) traps = settled_long t ions (set traps x.0 (Some t)) ∙ length-set traps x.0 (Some t)
+housed_long : (t : TrapId) (ions : List Ion) (traps : List (Option TrapId)) → length (housed t ions traps) ≡ length traps
+housed_long t [] traps = refl
+housed_long t (x ∷ ions) traps = housed_long t ions (set traps x.0 (Some t)) ∙ length-set traps x.0 (Some t)
 
 set_elsewhere : {X : Type 0} (xs : List X) (i k : ℕ) (y : X) → k ≢ i → slice_get (set xs i y) k ≡ slice_get xs k
 set_elsewhere [] i k y other = refl
@@ -154,11 +153,11 @@ set_elsewhere (x ∷ xs) (suc i) zero y other = refl
 set_elsewhere (x ∷ xs) (suc i) (suc k) y other = set_elsewhere xs i k y (λ e. other (ap suc e))
 
 -- the trap of a number is the new one where it is among the ions
-settled_get : (t : TrapId) (ions : List Ion) (traps : List (Option TrapId)) (i : ℕ) → i < length traps
-    → slice_get (settled t ions traps) i ≡ (if list_any (λ (x : Ion). x.0 == i) ions then Some (Some t) else slice_get traps i)
-settled_get t [] traps i within = refl
-settled_get t (x ∷ ions) traps i within =
-    settled_get t ions (set traps x.0 (Some t)) i (subst (λ (n : ℕ). i < n) (sym (length-set traps x.0 (Some t))) within)
+housed_get : (t : TrapId) (ions : List Ion) (traps : List (Option TrapId)) (i : ℕ) → i < length traps
+    → slice_get (housed t ions traps) i ≡ (if list_any (λ (x : Ion). x.0 == i) ions then Some (Some t) else slice_get traps i)
+housed_get t [] traps i within = refl
+housed_get t (x ∷ ions) traps i within =
+    housed_get t ions (set traps x.0 (Some t)) i (subst (λ (n : ℕ). i < n) (sym (length-set traps x.0 (Some t))) within)
     ∙ elim (cases_eq x.0 i) [
       | inl same ↦
           ap (λ (o : Option (Option TrapId)). if list_any (λ (y : Ion). y.0 == i) ions then Some (Some t) else o)
@@ -177,10 +176,10 @@ settled_get t (x ∷ ions) traps i within =
     off other = set_elsewhere traps x.0 i (Some t) (λ e. other (sym e))
 
 -- a step of the loop over the ions
-pub settled_next : (t : TrapId) (ions : List Ion) (old now : List (Option TrapId)) (k i : ℕ) (x : Ion) → k < length ions → i ≡ (get_or ions k x).0 → settled t (drop k ions) now ≡ settled t ions old
-    → settled t (drop (k + 1) ions) (set now i (Some t)) ≡ settled t ions old
-settled_next t ions old now k i x less at before =
-    ap (λ (j : ℕ). settled t (drop (k + 1) ions) (set now j (Some t))) at ∙ ap (λ (xs : List Ion). settled t xs now) (sym (drop_next ions k x less)) ∙ before
+pub housed_next : (t : TrapId) (ions : List Ion) (old now : List (Option TrapId)) (k i : ℕ) (x : Ion) → k < length ions → i ≡ (get_or ions k x).0 → housed t (drop k ions) now ≡ housed t ions old
+    → housed t (drop (k + 1) ions) (set now i (Some t)) ≡ housed t ions old
+housed_next t ions old now k i x less at before =
+    ap (λ (j : ℕ). housed t (drop (k + 1) ions) (set now j (Some t))) at ∙ ap (λ (xs : List Ion). housed t xs now) (sym (drop_next ions k x less)) ∙ before
 
 -- the traps of the ions in the first chains
 pub record HomesUpTo (n : ℕ) (chains : List (List Ion)) (t : ℕ) (traps : List (Option TrapId)) : Type 0 where
@@ -204,12 +203,12 @@ is_ion_some i (Some x) h = (x, refl, h)
 same_trap : (t k u j : ℕ) (place : IonPlace) → place ≡ InTrap u j → is_at t k place ≡ true → u ≡ t
 same_trap t k u j place is at = eqb-true u t (and_parts (u == t) (j == k) (sym (ap (is_at t k) is) ∙ at)).0
 
-pub next_homes : (m : MachineData) (n : ℕ) (chains : List (List Ion)) (t : ℕ) (traps new : List (Option TrapId)) (ions : List Ion) → IsStart m n chains → slice_get chains t ≡ Some ions → HomesUpTo n chains t traps → new ≡ settled (trap t) ions traps
+pub next_homes : (m : MachineData) (n : ℕ) (chains : List (List Ion)) (t : ℕ) (traps new : List (Option TrapId)) (ions : List Ion) → IsStart m n chains → slice_get chains t ≡ Some ions → HomesUpTo n chains t traps → new ≡ housed (trap t) ions traps
     → HomesUpTo n chains (t + 1) new
 next_homes m n chains t traps new ions start read so_far is = record {
-  long = ap (λ (xs : List (Option TrapId)). length xs) is ∙ settled_long (trap t) ions traps ∙ so_far.long;
+  long = ap (λ (xs : List (Option TrapId)). length xs) is ∙ housed_long (trap t) ions traps ∙ so_far.long;
   each = λ i u k below less place.
-      ap (λ (xs : List (Option TrapId)). slice_get xs i) is ∙ settled_get (trap t) ions traps i (subst (λ (j : ℕ). i < j) (sym so_far.long) below)
+      ap (λ (xs : List (Option TrapId)). slice_get xs i) is ∙ housed_get (trap t) ions traps i (subst (λ (j : ℕ). i < j) (sym so_far.long) below)
       ∙ elim (cases_Bool (list_any (λ (x : Ion). x.0 == i) ions)) [
         | inl in_it ↦
             let found = any_at (λ (x : Ion). x.0 == i) ions in_it in
@@ -232,8 +231,8 @@ next_homes m n chains t traps new ions start read so_far is = record {
     chain_is = get_or_from_slice_get chains t ions [] read
 
 -- the ions of a chain are numbered below the qubits
-pub settles : (m : MachineData) (n : ℕ) (chains : List (List Ion)) (t : ℕ) (traps : List (Option TrapId)) (ions : List Ion) → IsStart m n chains → slice_get chains t ≡ Some ions → length traps ≡ n → All (λ x. x.0 < length traps) ions
-settles m n chains t traps ions start read long i d less =
+pub houses : (m : MachineData) (n : ℕ) (chains : List (List Ion)) (t : ℕ) (traps : List (Option TrapId)) (ions : List Ion) → IsStart m n chains → slice_get chains t ≡ Some ions → length traps ≡ n → All (λ x. x.0 < length traps) ions
+houses m n chains t traps ions start read long i d less =
     subst (λ (k : ℕ). (get_or ions i d).0 < k) (sym long)
     (ion_below m n chains start t i (get_or ions i d) (ap (λ (xs : List Ion). slice_get xs i) (get_or_from_slice_get chains t ions [] read) ∙ slice_get-get_or ions i d less))
 

@@ -1,8 +1,7 @@
 -- A cold state holds what the state holds, cooled, and is safe where the state is.
 use Rattle.std.proofs.Common.{◌≡◌, ℕ, zero, suc, ◌+◌, swap, unwrap_or, slice_get, ◌≤◌, ◌<◌, ◌==◌, ◌∙◌, ap, ap₂, ◌||◌, ◌&&◌, is_some, is_none, sym, subst, refl, nat_lt, if◌then◌else◌, Bool, List, [], ◌∷◌, length, map, Option, Some, None, option_map, get_or, count_by}
-use Rattle.std.specs.List.{range_with_len, list_any, list_all}
+use Rattle.std.specs.List.{list_any, list_all}
 use Rattle.std.proofs.lemmas.List.{length-map}
-use Rattle.arrayvec.specs.ArrayVec.{ArrayVec}
 use Rattle.qccd_base.specs.declared.names.Res.{Res}
 use Rattle.qccd_base.specs.declared.names.Res.TheVariants as res
 use Rattle.qccd_machine.specs.Machine.{MachineData}
@@ -11,7 +10,7 @@ use Rattle.op_table.specs.declared.contents.Content.{Content}
 use Rattle.op_table.specs.declared.contents.Content.TheVariants as holds
 use Rattle.op_table.specs.declared.kinds.OpKind.{OpKind}
 use Rattle.op_table.specs.declared.kinds.OpKind.TheVariants.{Split, Move, Enter, Leave, Merge, Rot, GSwap, Item, Fence}
-use Rattle.op_table.specs.State.{IonPlace, InTrap, OnSegment, InJunction, Stand, State, is_in_trap, is_at, is_on_segment, is_in_junction, ions_in, heat_of, IsSafe}
+use Rattle.op_table.specs.State.{IonPlace, InTrap, OnSegment, InJunction, Stand, State, is_in_trap, is_at, is_on_segment, is_in_junction, IsSafe}
 use Rattle.qccd_base.specs.declared.names.SegEnd.{SegEnd}
 use Rattle.qccd_base.specs.declared.names.SegEnd.TheVariants.{A}
 use Rattle.qccd_base.specs.declared.names.End.{End}
@@ -19,7 +18,7 @@ use Rattle.qccd_base.specs.declared.names.End.TheVariants.{Left, Right}
 use Rattle.op_table.specs.declared.contents.Carry.{Carry}
 use Rattle.time_heat.specs.Heat.{split_ion_heat}
 use Rattle.op_table.specs.Step.{place_heat}
-use Rattle.op_table.specs.Contents.{place_end, seek, entry_of, entry_at, chain, rider, rider_of, carry, carry_of, content}
+use Rattle.op_table.specs.Contents.{place_end, seek, entry_of, chain, rider, rider_of, carry, carry_of, content}
 use Rattle.qccd_base.specs.declared.names.Qubit.{Qubit}
 use Rattle.qccd_machine.specs.declared.place.Place.TheVariants.{TrapEnd, Junction}
 use Rattle.op_table.specs.declared.contents.Rider.{Rider}

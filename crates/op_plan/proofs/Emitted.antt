@@ -1,15 +1,13 @@
 -- A plan with one operation more.
-use Rattle.std.proofs.Common.{arith, ◌≡◌, ℕ, suc, ◌+◌, ◌<◌, List, [], ◌∷◌, ◌++◌, map, length, refl, sym, ◌∙◌, ap, subst, Option, Some, None, option_map, length-append, IfSome}
+use Rattle.std.proofs.Common.{arith, ◌≡◌, ℕ, ◌<◌, List, [], ◌∷◌, ◌++◌, map, length, refl, sym, ◌∙◌, subst, Option, Some, None, length-append, IfSome}
 use Rattle.std.specs.List.{AllByRecursion}
 use Rattle.qccd_base.specs.declared.names.Qubit.{Qubit}
 use Rattle.qccd_base.specs.declared.names.TrapId.{TrapId}
-use Rattle.qccd_base.specs.declared.names.Res.{Res}
 use Rattle.qccd_machine.specs.Machine.{MachineData}
 use Rattle.op_table.specs.declared.kinds.OpKind.{OpKind}
 use Rattle.op_table.specs.declared.kinds.Why.{Why}
 use Rattle.op_table.specs.Contents.{content}
 use Rattle.op_table.specs.Op.{IsOp, KeepsItemRule}
-use Rattle.op_table.specs.Run.{IsRun}
 use Rattle.op_table.specs.State.{State, IsSafe}
 use Rattle.op_table.specs.Step.{why, effect}
 use Rattle.op_table.specs.Touch.{touches}
@@ -19,7 +17,7 @@ use Rattle.op_cells.specs.Numbering.{IsThere}
 use Rattle.op_cells.specs.Shows.{AreOf, Shows}
 use Rattle.op_plan.specs.Cold.{cold}
 use Rattle.op_plan.specs.Kept.{AreHomes, Keeps, mover, rehomed}
-use Rattle.op_plan.specs.Plan.{PlanData, Agrees, IsPlan, start_state, state_of, wired, with_ops}
+use Rattle.op_plan.specs.Plan.{PlanData, Agrees, start_state, state_of, wired, with_ops}
 use Rattle.op_plan.proofs.Agreeing.{effect_agrees, safe_agrees, shown_agrees, shows_agrees, why_agrees}
 use Rattle.op_plan.proofs.Cold.{safe_cold}
 use Rattle.op_plan.proofs.Rehomed.{homes_next, mover_below}

@@ -1,5 +1,5 @@
 -- In which trap each qubit stands after an operation: only a split and a merge change it, of one qubit.
-use Rattle.std.proofs.Common.{arith, ◌≡◌, ◌≢◌, ℕ, zero, suc, ◌+◌, ◌-◌, ◌≤◌, ◌<◌, ◌==◌, ◌⊎◌, inl, inr, ◌∙◌, ap, ap₂, sym, subst, refl, Bool, true, false, if◌then◌else◌, List, [], ◌∷◌, length, map, Option, Some, None, option_map, unwrap_or, find, set, nat_lt, count_by, slice_get, cond}
+use Rattle.std.proofs.Common.{arith, ◌≡◌, ◌≢◌, ℕ, ◌+◌, ◌-◌, ◌≤◌, ◌<◌, ◌==◌, inl, inr, ◌∙◌, ap, ap₂, sym, subst, refl, Bool, true, false, if◌then◌else◌, List, length, map, Option, Some, None, option_map, unwrap_or, find, set, nat_lt, count_by, slice_get}
 use Rattle.std.proofs.lemmas.Bool.{cases_Bool, eqb-true, eq-eqb, and_parts, false≢true}
 use Rattle.std.proofs.lemmas.List.{length-map}
 use Rattle.std.proofs.lemmas.Option.{same_Some, none-some, slice_get-map}
@@ -13,9 +13,8 @@ use Rattle.qccd_base.specs.declared.names.End.TheVariants.{Left, Right}
 use Rattle.qccd_base.specs.declared.names.SegEnd.{SegEnd}
 use Rattle.qccd_base.specs.declared.names.SegEnd.TheVariants.{A}
 use Rattle.qccd_machine.specs.Machine.{MachineData}
-use Rattle.op_table.specs.declared.kinds.OpKind.{OpKind}
-use Rattle.op_table.specs.declared.kinds.OpKind.TheVariants.{Split, Move, Enter, Leave, Merge, Rot, GSwap, Item, Fence}
-use Rattle.op_table.specs.State.{IonPlace, InTrap, OnSegment, InJunction, Stand, State, is_in_trap, is_at, is_on_segment, is_in_junction, ions_in, qubit_at, heat_of, rider_on, IsSafe}
+use Rattle.op_table.specs.declared.kinds.OpKind.TheVariants.{Split, Move, Enter, Leave, Merge, Rot, GSwap}
+use Rattle.op_table.specs.State.{IonPlace, InTrap, OnSegment, InJunction, Stand, State, is_at, is_on_segment, ions_in, qubit_at, heat_of, rider_on, IsSafe}
 use Rattle.time_heat.specs.Heat.{moved_heat, entered_heat}
 use Rattle.op_table.specs.declared.contents.Entry.{Entry}
 use Rattle.op_table.specs.declared.contents.Rider.{Rider}
@@ -23,12 +22,12 @@ use Rattle.op_table.specs.Contents.{seek, entry_of, rider_of, chain, rider}
 use Rattle.qccd_base.specs.declared.names.SegId.{SegId}
 use Rattle.qccd_machine.specs.declared.place.Place.TheVariants.{TrapEnd, Junction}
 use Rattle.time_heat.specs.Heat.{split_ion_heat, split_trap_heat, merged_heat, rotated_heat}
-use Rattle.op_table.specs.Step.{end_at, rider_heat, other_end, effect, placed, heated, swapped, exchanged, rotated, shifted_down, shifted_up, split_place, merge_place, move_place, enter_place, leave_place}
+use Rattle.op_table.specs.Step.{end_at, rider_heat, other_end, effect, swapped, exchanged, rotated, shifted_down, shifted_up, split_place, merge_place, move_place, enter_place, leave_place}
 use Rattle.op_table.proofs.Counts.{find-map}
 use Rattle.op_table.proofs.Seeking.{stand_in, seek-find}
 use Rattle.op_table.proofs.Chains.{seek_some}
 use Rattle.op_table.proofs.Found.{seek_unique, seek_stands, chain_stand, stand_chain}
-use Rattle.op_plan.specs.Place.{place_of, trap_and_position, stands_in, home}
+use Rattle.op_plan.specs.Place.{trap_and_position, home}
 
 -- the trap of a place
 abbrev pub trap_at : IonPlace → Option TrapId

@@ -7,5 +7,4 @@ pub mod Rehomed
 pub mod Runs
 pub mod Shown
 pub mod Stands
-pub mod Three
 pub mod Told

@@ -7,9 +7,7 @@ use Rattle.qccd_base.specs.declared.names.SegId.{SegId}
 use Rattle.qccd_base.specs.declared.names.TrapId.{TrapId}
 use Rattle.qccd_base.specs.declared.names.End.{End}
 use Rattle.qccd_base.specs.declared.names.End.TheVariants.{Left, Right}
-use Rattle.qccd_base.specs.declared.names.Res.TheVariants as res
 use Rattle.qccd_machine.specs.Machine.{MachineData}
-use Rattle.op_table.specs.declared.contents.Content.{Content}
 use Rattle.op_table.specs.declared.contents.Entry.{Entry}
 use Rattle.op_table.specs.declared.contents.Rider.{Rider}
 use Rattle.op_table.specs.declared.kinds.OpKind.{OpKind}
@@ -22,7 +20,7 @@ use Rattle.op_table.specs.Step.{needs, why, effect}
 use Rattle.op_table.specs.Touch.{touches}
 use Rattle.op_table.proofs.Chains.{length-chain}
 use Rattle.op_table.proofs.Every.{safe-effect}
-use Rattle.op_table.proofs.Found.{chain_stand, seek_stands}
+use Rattle.op_table.proofs.Found.{chain_stand}
 use Rattle.op_table.proofs.Shared.{all_met, set-get}
 use Rattle.op_table.proofs.Splits.{needs_split}
 use Rattle.op_cells.specs.Cold.{cold_rider}

@@ -1,5 +1,5 @@
 -- Runs put together and cut, and what they keep.
-use Rattle.std.proofs.Common.{arith, ◌≡◌, ℕ, zero, suc, ◌+◌, ◌<◌, ◌==◌, List, [], ◌∷◌, ◌++◌, length, map, refl, sym, ◌∙◌, ap, subst, Option, Some, None, find, slice_get, Bool, true, false, unwrap_or, option_map, append_assoc, if◌then◌else◌}
+use Rattle.std.proofs.Common.{arith, ◌≡◌, ℕ, zero, suc, ◌+◌, ◌<◌, List, [], ◌∷◌, ◌++◌, length, map, refl, sym, ◌∙◌, ap, subst, Some, None, find, slice_get, Bool, true, false, unwrap_or, option_map, append_assoc, if◌then◌else◌}
 use Rattle.std.specs.List.{AllByRecursion, range_with_len}
 use Rattle.std.proofs.lemmas.List.{length-map}
 use Rattle.std.proofs.lemmas.Option.{same_Some, none-some}
@@ -10,7 +10,7 @@ use Rattle.op_table.specs.declared.kinds.OpKind.{OpKind}
 use Rattle.op_table.specs.declared.kinds.OpKind.TheVariants.{Split, Move, Enter, Leave, Merge, Rot, GSwap, Item, Fence}
 use Rattle.op_table.specs.Op.{IsOp}
 use Rattle.op_table.specs.Run.{IsRun, after}
-use Rattle.op_table.specs.State.{IonPlace, Stand, State, is_at, place_from, opening, qubit_at, IsSafe}
+use Rattle.op_table.specs.State.{Stand, State, is_at, place_from, qubit_at, IsSafe}
 use Rattle.op_table.specs.Step.{why, effect, swapped}
 use Rattle.op_table.proofs.Every.{safe-effect}
 use Rattle.op_table.proofs.Neighbours.{bits_kept}

@@ -1,5 +1,5 @@
 -- Where a qubit stands that has a trap: it is found in the chain of that trap alone.
-use Rattle.std.proofs.Common.{arith, ◌≡◌, ℕ, zero, suc, ◌<◌, ◌≤◌, ◌==◌, ◌&&◌, inl, inr, cond, Bool, true, false, List, [], ◌∷◌, length, get_or, refl, sym, ◌∙◌, ap, ap₂, subst, Option, Some, None, option_map, position, find, slice_get, count_by}
+use Rattle.std.proofs.Common.{arith, ◌≡◌, ℕ, ◌<◌, ◌≤◌, ◌==◌, inl, inr, cond, Bool, true, false, List, length, get_or, refl, sym, ◌∙◌, ap, subst, Option, Some, None, option_map, position, slice_get, count_by}
 use Rattle.std.specs.List.{position_or_len}
 use Rattle.std.proofs.lemmas.List.Sums.{fails_before_first}
 use Rattle.std.proofs.lemmas.Bool.{and_parts, cases_lt, eqb-true, false≢true, lt-ltb}
@@ -10,7 +10,7 @@ use Rattle.qccd_base.specs.declared.names.Qubit.{Qubit}
 use Rattle.qccd_base.specs.declared.names.TrapId.{TrapId}
 use Rattle.qccd_machine.specs.Machine.{MachineData}
 use Rattle.op_table.specs.declared.contents.Entry.{Entry}
-use Rattle.op_table.specs.Contents.{chain, entry_of, seek}
+use Rattle.op_table.specs.Contents.{chain, entry_of}
 use Rattle.op_table.specs.State.{IonPlace, InTrap, OnSegment, InJunction, Stand, State, is_at, ions_in, IsSafe}
 use Rattle.op_table.proofs.Chains.{length-chain}
 use Rattle.op_table.proofs.Found.{at_own, chain_stand, seek_unique, stand_chain}

@@ -1,11 +1,11 @@
 -- What a plan tells of its places.
-use Rattle.std.proofs.Common.{arith, ◌≡◌, ℕ, zero, suc, ◌<◌, ◌≤◌, ◌==◌, List, [], ◌∷◌, length, get_or, refl, sym, ◌∙◌, ap, subst, Option, Some, None, position, slice_get}
-use Rattle.std.proofs.lemmas.Option.{none-some, same_Some, slice_get-get_or}
+use Rattle.std.proofs.Common.{arith, ◌≡◌, ℕ, zero, suc, ◌<◌, ◌≤◌, ◌==◌, List, [], ◌∷◌, length, get_or, sym, ◌∙◌, ap, subst, Option, Some, None, position}
+use Rattle.std.proofs.lemmas.Option.{same_Some, slice_get-get_or}
 use Rattle.qccd_base.specs.declared.names.Qubit.{Qubit}
 use Rattle.qccd_base.specs.declared.names.TrapId.{TrapId}
 use Rattle.op_table.specs.declared.contents.Entry.{Entry}
 use Rattle.op_table.specs.Contents.{chain}
-use Rattle.op_table.specs.State.{State, ions_in, IsSafe}
+use Rattle.op_table.specs.State.{ions_in}
 use Rattle.op_cells.specs.declared.cells.Cell.{Cell}
 use Rattle.op_plan.specs.Kept.{Keeps}
 use Rattle.op_plan.specs.Place.{home, stands_in, trap_and_position}

@@ -1,5 +1,5 @@
 -- A plan on a machine of two traps.
-use Rattle.std.specs.Prelude.{◌≡◌, ℕ, List, [], ◌∷◌}
+use Rattle.std.specs.Prelude.{◌≡◌, List, [], ◌∷◌}
 use Rattle.qccd_base.specs.Names.{ion}
 use Rattle.qccd_base.specs.declared.names.Ion.{Ion}
 use Rattle.op_table.specs.Example.{pair}

@@ -3,7 +3,6 @@ use Rattle.std.specs.Prelude.{◌≡◌, ℕ, ◌<◌, ◌≤◌, All, List, [],
 use Rattle.qccd_base.specs.declared.names.Ion.{Ion}
 use Rattle.qccd_base.specs.declared.names.Qubit.{Qubit}
 use Rattle.qccd_base.specs.declared.names.TrapId.{TrapId}
-use Rattle.qccd_machine.specs.Machine.{MachineData}
 use Rattle.op_table.specs.declared.contents.Content.{Content}
 use Rattle.op_table.specs.declared.contents.Entry.{Entry}
 use Rattle.op_table.specs.declared.contents.Rider.{Rider}
@@ -48,6 +47,6 @@ rehomed None traps = traps
 rehomed (Some x) traps = set traps x.0.0 x.1
 
 -- the ions of a start chain carry the qubits of their numbers into the trap
-abbrev pub settled : TrapId → List Ion → List (Option TrapId) → List (Option TrapId)
-settled t [] traps = traps
-settled t (x ∷ ions) traps = settled t ions (set traps x.0 (Some t))
+abbrev pub housed : TrapId → List Ion → List (Option TrapId) → List (Option TrapId)
+housed t [] traps = traps
+housed t (x ∷ ions) traps = housed t ions (set traps x.0 (Some t))

@@ -2,7 +2,7 @@
 use Rattle.std.specs.Prelude.{◌≡◌, ℕ, List}
 use Rattle.qccd_base.specs.declared.names.Ion.{Ion}
 use Rattle.qccd_base.specs.declared.names.Res.{Res}
-use Rattle.qccd_machine.specs.Machine.{MachineData, IsValid}
+use Rattle.qccd_machine.specs.Machine.{MachineData}
 use Rattle.op_table.specs.declared.contents.Content.{Content}
 use Rattle.op_table.specs.Contents.{content}
 use Rattle.op_table.specs.Start.{IsStart}

@@ -6,7 +6,7 @@ ghost use Rattle.op_table.specs.Start.{IsStart};
 ghost use Rattle.op_table.specs.State.{opening};
 ghost use Rattle.op_cells.specs.Shows.{Shows};
 ghost use Rattle.op_plan.specs.Cold.{cold};
-ghost use Rattle.op_plan.specs.Kept.{settled, AreHomes};
+ghost use Rattle.op_plan.specs.Kept.{housed, AreHomes};
 ghost use Rattle.op_plan.specs.Opening.{AreStart, IsOpeningAt};
 
 use op_cells::{Cell, Cells, DoneList, count_of, start_chain};
@@ -105,7 +105,7 @@ pub(crate) fn opening_homes(
 {
     let mut homes = vec![in alloc; None; usize::from(qubits)]?;
     for trap in 0..machine.traps() {
-        settle(
+        house(
             &mut homes,
             TrapId(trap),
             chains[usize::from(trap)].as_slice(),
@@ -115,9 +115,9 @@ pub(crate) fn opening_homes(
 }
 
 // The ions carry the qubits of their numbers into the trap.
-fn settle(homes: &mut Vec<Option<TrapId>>, trap: TrapId, ions: &[Ion])
+fn house(homes: &mut Vec<Option<TrapId>>, trap: TrapId, ions: &[Ion])
     requires { All (λ x. x.0 < length homes.old.items) ions.now }
-    ensures { homes.new.items ≡ settled trap ions.now homes.old.items }
+    ensures { homes.new.items ≡ housed trap ions.now homes.old.items }
 {
     for ion in ions {
         homes[usize::from(ion.0)] = Some(trap);

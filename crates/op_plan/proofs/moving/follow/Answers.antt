@@ -1,4 +1,4 @@
-use Rattle.std.proofs.Common.{◌∙◌, ap, List, Option}
+use Rattle.std.proofs.Common.{◌∙◌, ap, Option}
 use Rattle.qccd_base.specs.declared.names.Qubit.{Qubit}
 use Rattle.qccd_base.specs.declared.names.TrapId.{TrapId}
 use Rattle.op_plan.specs.Cold.{cold}

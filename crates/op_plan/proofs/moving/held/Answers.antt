@@ -1,7 +1,3 @@
-use Rattle.std.proofs.Common.{sym, ◌∙◌, ap, subst, ℕ, ◌<◌, length, Some}
-use Rattle.std.proofs.lemmas.Option.{same_Some}
-use Rattle.op_cells.specs.declared.cells.Cell.{Cell}
-use Rattle.op_cells.proofs.InOrder.{in-order}
 use Rattle.op_plan.proofs.Shown.{held_at, within_at}
 use Rattle.op_plan.proofs.moving.held.Goals as goal
 

@@ -1,6 +1,5 @@
-use Rattle.std.proofs.Common.{arith, ◌≡◌, ◌+◌, length, ◌∙◌, ap, sym, subst, List}
+use Rattle.std.proofs.Common.{arith, sym, subst}
 use Rattle.op_table.specs.State.{opening}
-use Rattle.op_cells.specs.declared.cells.Cell.{Cell}
 use Rattle.op_cells.specs.Shows.{Shows}
 use Rattle.op_plan.specs.Cold.{cold}
 use Rattle.op_plan.proofs.Begun.{all_shown, next_shown}

@@ -1,4 +1,4 @@
-use Rattle.std.proofs.Common.{ℕ, List, [], ◌∷◌, ◌++◌, ap, ◌∙◌, arith}
+use Rattle.std.proofs.Common.{List, [], ◌∷◌, ◌++◌, ap, ◌∙◌, arith}
 use Rattle.qccd_machine.specs.declared.place.Place.{Place}
 use Rattle.op_plan.proofs.Begun.{taken_all, taken_next}
 use Rattle.op_plan.proofs.opening.segments_of.Goals as goal

@@ -1,5 +1,4 @@
 use Rattle.std.proofs.Common.{◌∙◌, ap}
-use Rattle.qccd_base.specs.declared.names.Res.TheVariants as res
 use Rattle.op_table.specs.Act.{chain_in}
 use Rattle.op_plan.specs.Cold.{cold}
 use Rattle.op_plan.specs.Plan.{state_of, wired}

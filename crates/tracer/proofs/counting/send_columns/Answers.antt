@@ -1,4 +1,4 @@
-use Rattle.std.proofs.Common.{◌≡◌, ℕ, List, ◌++◌, decimal, ap, arith}
+use Rattle.std.proofs.Common.{ℕ, List, ◌++◌, decimal, ap, arith}
 use Rattle.std.specs.List.{enumerate_from}
 use Rattle.transport_asm.specs.OpText.{next_word}
 use Rattle.tracer.specs.Report.{columns, count_text}

@@ -1,4 +1,4 @@
-use Rattle.std.proofs.Common.{◌≡◌, ℕ, List, ◌++◌, codes, Ok, Err, ap, sym, ◌∙◌, append_assoc}
+use Rattle.std.proofs.Common.{◌≡◌, ℕ, List, ◌++◌, codes, ap, ◌∙◌, append_assoc}
 use Rattle.std.specs.Prelude.{length}
 use Rattle.qccd_base.specs.Line.{line}
 use Rattle.qccd_machine.specs.Machine.{MachineData}

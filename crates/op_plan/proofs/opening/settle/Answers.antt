@@ -1,9 +1,0 @@
-use Rattle.std.proofs.Common.{arith, ◌∙◌, length-set, Some}
-use Rattle.op_plan.proofs.Begun.{settled_next}
-use Rattle.op_plan.proofs.opening.settle.Goals as goal
-
-pub loop-ion-preserved : goal.loop-ion-preserved
-loop-ion-preserved c = record {
-  whole = settled_next c.args.trap c.args.ions.now c.args.homes.now.items c.loop-ion.homes.items c.loop-ion.ion-index c.from.result _ c.loop-ion-test.true c.from.ensures c.loop-ion.invariant.whole;
-  long = length-set c.loop-ion.homes.items c.from.result (Some c.args.trap) ∙ c.loop-ion.invariant.long;
-}
