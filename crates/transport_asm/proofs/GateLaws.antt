@@ -15,8 +15,8 @@ use Rattle.transport_asm.proofs.Fitting.{FitsGate, FitsOperand}
 use Rattle.transport_asm.specs.declared.faults.AsmKind.{AsmKind}
 use Rattle.transport_asm.specs.declared.faults.AsmKind.TheVariants.{Word, Number, TooMany}
 use Rattle.transport_asm.specs.Steps.{◌>>=◌, judged}
-use Rattle.transport_asm.specs.Slots.{Slot, Gate, before_parenthesis, behind_parenthesis, has_parenthesis, is_closed, without_last, angles_in, has_angle_form, has_gate_form, is_long_angle, passes_gate_limit, gate_checks, gate_slot, are_digits, number_in, is_outside, operand_part_checks, operand_of_parts, at_signs, operand_slot}
-use Rattle.transport_asm.proofs.Numbers.{own, two_pass, inside, neither, decimal-number_in, are_digits-decimal, is_outside-decimal, number_in-decimal}
+use Rattle.transport_asm.specs.Slots.{Slot, Gate, before_parenthesis, behind_parenthesis, has_parenthesis, is_closed, without_last, angles_in, has_angle_form, has_gate_form, is_long_angle, passes_gate_limit, gate_checks, gate_slot, are_digits, number_in, is_outside, operand_form, operand_numbers, number_slot, operand_of_parts, at_signs, operand_slot}
+use Rattle.transport_asm.proofs.Numbers.{own, number_takes, two_pass, inside, neither, decimal-number_in, are_digits-decimal, is_outside-decimal, number_in-decimal}
 use Rattle.transport_asm.specs.Shapes.{is_end}
 use Rattle.transport_asm.proofs.Cut.{lacks, EachLacks, split-join, has_word}
 use Rattle.transport_asm.proofs.SlotLaws.{bind_ok, ok_is, is_plain, is_plain_byte, IsSlot, plain_digits}
@@ -137,7 +137,7 @@ gate_takes word g e =
 apart_from : (P : ℕ → Bool) (k c : ℕ) → P k ≡ false → P c ≡ true → (c == k) ≡ false
 apart_from P k c out in_it = ne_eqb c k (λ is. let f : true ≡ false = sym in_it ∙ ap P is ∙ out in absurd cc)
 
-lacks_all : (P : ℕ → Bool) (k : ℕ) → P k ≡ false → (word : List ℕ) → list_all P word ≡ true → lacks k word ≡ true
+pub lacks_all : (P : ℕ → Bool) (k : ℕ) → P k ≡ false → (word : List ℕ) → list_all P word ≡ true → lacks k word ≡ true
 lacks_all P k out [] all = refl
 lacks_all P k out (c ∷ word) all =
     let parts = and_parts (P c) (list_all P word) all in
@@ -218,26 +218,24 @@ gate_law = record { takes = gate_takes; again = gate_again; plain = gate_plain }
 
 -- ---- a qubit at a position
 
-operand_parts : (parts : List (List ℕ)) (q : Qubit × ℕ) → judged (operand_part_checks parts) (operand_of_parts parts) ≡ Ok q
-    → (parts ≡ (113 ∷ decimal q.0.0) ∷ decimal q.1 ∷ []) × FitsOperand q
+operand_parts : (parts : List (List ℕ)) (q : Qubit × ℕ) → operand_of_parts parts ≡ Ok q → (parts ≡ (113 ∷ decimal q.0.0) ∷ decimal q.1 ∷ []) × FitsOperand q
 operand_parts [] q e = absurd cc
 operand_parts (a ∷ []) q e = absurd cc
 operand_parts (a ∷ b ∷ c ∷ more) q e = absurd cc
 operand_parts ([] ∷ p ∷ []) q e = absurd cc
-operand_parts ((c ∷ digits) ∷ p ∷ []) q e =
-    let form = (c == 113) && are_digits digits in
-    let outside = is_outside 65535 digits || is_outside 255 p in
-    let passed = two_pass ((form && are_digits p) && outside) (not (form && are_digits p)) Number Word (qubit (number_in digits), number_in p) q e in
-    let test = inside (form && are_digits p) outside passed.0 passed.1 in
-    let forms = and_parts form (are_digits p) test.0 in
-    let letter = and_parts (c == 113) (are_digits digits) forms.0 in
-    let limits = neither (is_outside 65535 digits) (is_outside 255 p) test.1 in
-    let first = decimal-number_in 65535 digits (omega arith) letter.1 limits.0 in
-    let second = decimal-number_in 255 p (omega arith) forms.1 limits.1 in
-    let c-is : c ≡ 113 = eqb-true c 113 letter.0 in
-    let made : (c ∷ digits) ∷ p ∷ [] ≡ (113 ∷ decimal (number_in digits)) ∷ decimal (number_in p) ∷ [] =
-    ap (λ (k : ℕ). (k ∷ digits) ∷ p ∷ []) c-is ∙ ap (λ (w : List ℕ). (113 ∷ w) ∷ p ∷ []) first.0 ∙ ap (λ (w : List ℕ). (113 ∷ decimal (number_in digits)) ∷ w ∷ []) second.0 in
-    subst (λ (v : Qubit × ℕ). ((c ∷ digits) ∷ p ∷ [] ≡ (113 ∷ decimal v.0.0) ∷ decimal v.1 ∷ []) × FitsOperand v) passed.2 (made, (first.1, second.1))
+operand_parts ((c ∷ digits) ∷ p ∷ []) q e = by_test (operand_form (c ∷ digits) p) refl e
+  where
+    by_test : (t : Bool) → operand_form (c ∷ digits) p ≡ t → cond t (operand_numbers digits p) (Err Word) ≡ Ok q → ((c ∷ digits) ∷ p ∷ [] ≡ (113 ∷ decimal q.0.0) ∷ decimal q.1 ∷ []) × FitsOperand q
+    by_test false is e = absurd cc
+    by_test true is e =
+        let a = bind_ok ((number_slot 65535).read digits) (λ n. (number_slot 255).read p >>= λ m. Ok (qubit n, m)) q e in
+        let b = bind_ok ((number_slot 255).read p) (λ m. Ok (qubit a.0, m)) q a.2 in
+        let letter = and_parts (c == 113) (are_digits digits) (and_parts ((c == 113) && are_digits digits) (are_digits p) is).0 in
+        let first = number_takes 65535 digits a.0 (omega arith) a.1 in
+        let second = number_takes 255 p b.0 (omega arith) b.1 in
+        let made : (c ∷ digits) ∷ p ∷ [] ≡ (113 ∷ decimal a.0) ∷ decimal b.0 ∷ [] =
+        ap (λ (k : ℕ). (k ∷ digits) ∷ p ∷ []) (eqb-true c 113 letter.0) ∙ ap (λ (w : List ℕ). (113 ∷ w) ∷ p ∷ []) first.0 ∙ ap (λ (w : List ℕ). (113 ∷ decimal a.0) ∷ w ∷ []) second.0 in
+        subst (λ (v : Qubit × ℕ). ((c ∷ digits) ∷ p ∷ [] ≡ (113 ∷ decimal v.0.0) ∷ decimal v.1 ∷ []) × FitsOperand v) (ok_is (qubit a.0, b.0) q b.2) (made, (first.1, second.1))
 
 lacks_digits : (n : ℕ) → n < 2 ^ 64 → lacks 64 (decimal n) ≡ true
 lacks_digits n small = lacks_all is_ascii_digit 64 refl (decimal n) (digits_decimal own n small)
@@ -258,7 +256,7 @@ operand_law = record {
   again = λ q fits.
       let n : q.0.0 < 2 ^ 64 = omega (arith, fits.0) in
       let p : q.1 < 2 ^ 64 = omega (arith, fits.1) in
-      ap (λ (ps : List (List ℕ)). judged (operand_part_checks ps) (operand_of_parts ps)) (operand_cut q fits)
+      ap operand_of_parts (operand_cut q fits)
       ∙ rw (are_digits-decimal q.0.0 n, are_digits-decimal q.1 p, is_outside-decimal 65535 q.0.0 n fits.0, is_outside-decimal 255 q.1 p fits.1, number_in-decimal q.0.0 n, number_in-decimal q.1 p) refl;
   plain = λ q fits.
       ap is_plain (operand_is q) ∙ plain-append (113 ∷ decimal q.0.0) (64 ∷ decimal q.1) (plain_digits (decimal q.0.0) (digits_decimal own q.0.0 (omega (arith, fits.0)))) (plain_digits (decimal q.1) (digits_decimal own q.1 (omega (arith, fits.1))));

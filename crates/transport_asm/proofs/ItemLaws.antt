@@ -121,7 +121,7 @@ t_law = one_law trap_slot FitsTrap trap_law
 n_law : IsShape (one (number_slot greatest)) (λ n. n ≤ greatest)
 n_law = one_law (number_slot greatest) (λ n. n ≤ greatest) (number_law greatest (omega arith))
 
-qubits_take : (ws : List (List ℕ)) (qs : List Qubit) (rest : List (List ℕ)) → qubits_at ws ≡ Ok (qs, rest) → (ws ≡ map qubit_text qs ++ rest) × (rest ≡ []) × AllByRecursion FitsQubit qs
+pub qubits_take : (ws : List (List ℕ)) (qs : List Qubit) (rest : List (List ℕ)) → qubits_at ws ≡ Ok (qs, rest) → (ws ≡ map qubit_text qs ++ rest) × (rest ≡ []) × AllByRecursion FitsQubit qs
 qubits_take [] qs rest e =
     subst (λ (p : List Qubit × List (List ℕ)). ([] ≡ map qubit_text p.0 ++ p.1) × (p.1 ≡ []) × AllByRecursion FitsQubit p.0) (ok_is ([], []) (qs, rest) e) (refl, refl, tt)
 qubits_take (word ∷ more) qs rest e =

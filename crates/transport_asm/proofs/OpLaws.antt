@@ -170,11 +170,11 @@ some_words (GSwap t low high) = omega arith
 some_words (Item number t item at) = omega arith
 some_words (Fence number item traps) = omega arith
 
-whole_ok : (value : OpKind) (words : List (List ℕ)) (made : OpKind) → whole value words ≡ Ok made → (words ≡ []) × (value ≡ made)
+pub whole_ok : (value : OpKind) (words : List (List ℕ)) (made : OpKind) → whole value words ≡ Ok made → (words ≡ []) × (value ≡ made)
 whole_ok value [] made e = (refl, ok_is value made e)
 whole_ok value (word ∷ more) made e = absurd cc
 
-right_ok : (op made : OpKind) → keeping_rules op ≡ Ok made → (is_right op ≡ true) × (op ≡ made)
+pub right_ok : (op made : OpKind) → keeping_rules op ≡ Ok made → (is_right op ≡ true) × (op ≡ made)
 right_ok op made e = by_test (is_right op) refl e
   where
     by_test : (t : Bool) → is_right op ≡ t → cond t (Ok op) (Err Word) ≡ Ok made → (is_right op ≡ true) × (op ≡ made)

@@ -183,7 +183,7 @@ ruled head tail fits (inr (inr (is, (is', inr (q, (small, tail-is)))))) right =
     let made = two_ruled head q fits small (gate_name head.1.0.name is is' parts.1) parts.0 in
     subst (λ (t : Tail). RuledBy head t) (sym tail-is) (subst (λ (k : ItemKind). Ruled k head (second_tail q)) (sym k) made)
 
-item_writable : (op : OpKind) → FitsItem op → is_right op ≡ true → IsWritable op
+pub item_writable : (op : OpKind) → FitsItem op → is_right op ≡ true → IsWritable op
 item_writable op fits right =
     let right' : is_right (item_op fits.head fits.tail) ≡ true = subst (λ (o : OpKind). is_right o ≡ true) (sym fits.is) right in
     let r = ruled fits.head fits.tail fits.fits_head fits.fits_tail right' in
@@ -195,7 +195,7 @@ item_writable op fits right =
     } in
     subst IsWritable fits.is made
 
-fence_writable : (op : OpKind) → FitsFence op → is_right op ≡ true → IsWritable op
+pub fence_writable : (op : OpKind) → FitsFence op → is_right op ≡ true → IsWritable op
 fence_writable op fits right =
     let right' : is_right (Fence fits.number (barrier_over fits.qubits) (fits.first ∷ fits.more)) ≡ true = subst (λ (o : OpKind). is_right o ≡ true) (sym fits.is) right in
     let parts = and_parts (are_distinct fits.qubits) (are_ascending (fits.first ∷ fits.more)) right' in

@@ -6,4 +6,9 @@ pub mod Operations
 pub mod Lines
 pub mod Texts
 pub mod Writable
+pub mod Cursor
+pub mod Marks
+pub mod Parts
+pub mod LineCursor
+pub mod ProgramText
 pub mod Example

@@ -1,5 +1,5 @@
 -- The lines of operations.
-use Rattle.std.specs.Prelude.{ℕ, Bool, true, false, not, ◌&&◌, ◌||◌, ◌==◌, nat_lt, List, [], ◌∷◌, ◌++◌, length, map, codes, bytes_eq, if◌then◌else◌, Result, Ok, Err, None, zip, decimal}
+use Rattle.std.specs.Prelude.{ℕ, take, Bool, true, false, not, ◌&&◌, ◌||◌, ◌==◌, nat_lt, List, [], ◌∷◌, ◌++◌, length, map, codes, bytes_eq, if◌then◌else◌, Result, Ok, Err, None, zip, decimal}
 use Rattle.qccd_base.specs.declared.names.TrapId.{TrapId}
 use Rattle.qccd_base.specs.declared.names.SegId.{SegId}
 use Rattle.qccd_base.specs.declared.names.JuncId.{JuncId}
@@ -71,10 +71,14 @@ second_at (word ∷ more) =
     if bytes_eq word (codes "if") then Err NotBuilt
     else read_one operand_slot (word ∷ more) >>= λ q. ends_item (record { second = q.0 ∷ []; bits = [] }) q.1
 
+-- the bit of a measurement
+abbrev pub measured_at : List (List ℕ) → Reading Tail
+measured_at words = read_one bit_slot words >>= λ b. ends_item (record { second = []; bits = b.0 ∷ [] }) b.1
+
 -- the name decides which words are stated
 abbrev pub tail_at : List ℕ → List (List ℕ) → Reading Tail
 tail_at name words =
-    if bytes_eq name (codes "measure") then (read_one bit_slot words >>= λ b. ends_item (record { second = []; bits = b.0 ∷ [] }) b.1)
+    if bytes_eq name (codes "measure") then measured_at words
     else (if bytes_eq name (codes "reset") then ends_item (record { second = []; bits = [] }) words
     else second_at words)
 
@@ -193,5 +197,24 @@ is_right (Fence number item traps) = are_distinct item.qubits && are_ascending t
 abbrev pub keeping_rules : OpKind → Result OpKind AsmKind
 keeping_rules op = if is_right op then Ok op else Err Word
 
+-- an operation that ends its line and keeps the rules
+abbrev pub finished : Reading OpKind → Result OpKind AsmKind
+finished reading = reading >>= λ op. whole op.0 op.1 >>= keeping_rules
+
 abbrev pub read_op : List (List ℕ) → Result OpKind AsmKind
-read_op words = op_at words >>= λ op. whole op.0 op.1 >>= keeping_rules
+read_op words = finished (op_at words)
+
+-- of the operations that are no items and no fences
+abbrev pub plain_right : OpKind → Bool
+plain_right (Split t e g) = true
+plain_right (Move g) = true
+plain_right (Enter g j) = true
+plain_right (Leave j g) = true
+plain_right (Merge g t e) = true
+plain_right (Rot t p) = true
+plain_right (GSwap t low high) = nat_lt low high
+plain_right (Item number t item at) = true
+plain_right (Fence number item traps) = true
+
+abbrev pub plain_at : List ℕ → List (List ℕ) → Result OpKind AsmKind
+plain_at name words = read_row (take 7 op_rows) name words >>= λ op. whole op.0 op.1 >>= λ made. if plain_right made then Ok made else Err Word

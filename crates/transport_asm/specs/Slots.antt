@@ -123,22 +123,21 @@ next_trap_slot next = record { read = λ word. lettered 84 255 word >>= next_onl
 abbrev pub operand_form : List ℕ → List ℕ → Bool
 operand_form q p = has_letter 113 q && are_digits p
 
-abbrev pub operand_part_checks : List (List ℕ) → List Check
-operand_part_checks [] = (Word, true) ∷ []
-operand_part_checks (q ∷ []) = (Word, true) ∷ []
-operand_part_checks (q ∷ p ∷ []) = (Number, operand_form q p && (is_outside 65535 (drop 1 q) || is_outside 255 p)) ∷ (Word, not (operand_form q p)) ∷ []
-operand_part_checks (q ∷ p ∷ more ∷ parts) = (Word, true) ∷ []
+abbrev pub operand_numbers : List ℕ → List ℕ → Result (Qubit × ℕ) AsmKind
+operand_numbers digits position = (number_slot 65535).read digits >>= λ n. (number_slot 255).read position >>= λ p. Ok (qubit n, p)
 
-abbrev pub operand_of_parts : List (List ℕ) → Qubit × ℕ
-operand_of_parts [] = (qubit 0, 0)
-operand_of_parts (q ∷ []) = (qubit 0, 0)
-operand_of_parts (q ∷ p ∷ parts) = (qubit (letter_value q), number_in p)
+-- the form of both parts comes before either number
+abbrev pub operand_of_parts : List (List ℕ) → Result (Qubit × ℕ) AsmKind
+operand_of_parts [] = Err Word
+operand_of_parts (q ∷ []) = Err Word
+operand_of_parts (q ∷ p ∷ []) = if operand_form q p then operand_numbers (drop 1 q) p else Err Word
+operand_of_parts (q ∷ p ∷ more ∷ parts) = Err Word
 
 abbrev pub at_signs : List ℕ → List (List ℕ)
 at_signs word = slice_split (λ c. c == 64) word
 
 abbrev pub operand_slot : Slot (Qubit × ℕ)
-operand_slot = record { read = λ word. judged (operand_part_checks (at_signs word)) (operand_of_parts (at_signs word)); text = operand_text }
+operand_slot = record { read = λ word. operand_of_parts (at_signs word); text = operand_text }
 
 -- ---- a gate
 

@@ -2,10 +2,12 @@
 
 ghost use Rattle.std.specs.Prelude.{◌≡◌, ◌⊎◌, List, ℕ, Ok};
 ghost use Rattle.op_table.specs.declared.kinds.OpKind.{OpKind};
+ghost use Rattle.claim_core.specs.Program.{ProgramData};
 ghost use Rattle.transport_asm.specs.OpText.{op_text};
 ghost use Rattle.transport_asm.specs.Lines.{Refusal, words_of, line_text};
 ghost use Rattle.transport_asm.specs.Operations.{op_words, read_op};
 ghost use Rattle.transport_asm.specs.Texts.{RawData, Spells, IsRefusedAt, raw_text};
+ghost use Rattle.transport_asm.specs.ProgramText.{program_text, spelled};
 ghost use Rattle.transport_asm.specs.Writable.{IsWritable, IsWritableRaw};
 
 /// The text of a raw program that has one spells it.
@@ -43,4 +45,9 @@ pub fn op_read_back()
 /// A text that is read as an operation is its only text, and the operation has a text.
 pub fn op_one_text()
     ensures { (text : List ℕ) (op : OpKind) → read_op (words_of text) ≡ Ok op → (text ≡ op_text op) × IsWritable op }
+{}
+
+/// The text of a program that has one is read as its numbers, start chains and operations.
+pub fn program_read_back()
+    ensures { (p : ProgramData) → IsWritableRaw (spelled p) → Spells (program_text p) (spelled p) }
 {}

@@ -1,10 +1,27 @@
 //! The texts of transport programs, written and read.
 #![tactic(auto)]
 
+mod chains;
 mod faults;
+mod fences;
+mod gates;
+mod item_ops;
+mod items;
 pub mod laws;
+mod lines;
+mod ops;
+mod program_texts;
+mod programs;
+mod shapes;
+mod words;
 pub mod worked;
 mod writing;
 
-pub use faults::AsmKind;
+pub use faults::{AsmFault, AsmKind, OpFault};
+pub use ops::read_op;
+pub use program_texts::write_program;
+pub use programs::{RawProgram, read_ops};
 pub use writing::write_op;
+
+#[cfg(test)]
+mod tests;

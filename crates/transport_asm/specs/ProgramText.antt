@@ -1,0 +1,45 @@
+-- The text of a program, and the pieces in which it is sent.
+use Rattle.std.specs.Prelude.{ℕ, ◌+◌, List, [], ◌∷◌, ◌++◌, codes, decimal, flat_map, length}
+use Rattle.qccd_base.specs.declared.names.Ion.{Ion}
+use Rattle.op_table.specs.declared.kinds.OpKind.{OpKind}
+use Rattle.claim_core.specs.Program.{ProgramData}
+use Rattle.transport_asm.specs.OpText.{op_text, next_word}
+use Rattle.transport_asm.specs.Texts.{RawData, raw_text}
+
+-- what a program's text spells: its numbers, start chains and operations
+abbrev pub spelled : ProgramData → RawData
+spelled p = record { qubits = p.qubits; bits = p.bits; chains = p.start; ops = p.ops }
+
+unfoldable pub program_text : ProgramData → List ℕ
+program_text p = raw_text (spelled p)
+
+-- ---- the pieces
+
+-- texts one after another, each with its number, from k on
+abbrev pub numbered_texts : {A : Type 0} → (ℕ → A → List ℕ) → ℕ → List A → List ℕ
+numbered_texts text k [] = []
+numbered_texts text k (value ∷ more) = text k value ++ numbered_texts text (k + 1) more
+
+abbrev pub counts_text : ℕ → ℕ → List ℕ
+counts_text qubits bits = (codes "QCCD 1\nqubits " ++ decimal qubits) ++ (codes "\nbits " ++ decimal bits)
+
+abbrev pub traps_head : ℕ → List ℕ
+traps_head n = codes "\ntraps " ++ decimal n ++ codes "\n"
+
+abbrev pub ions_text : List Ion → List ℕ
+ions_text ions = flat_map (λ i. next_word (decimal i.0)) ions
+
+abbrev pub chain_text : ℕ → List Ion → List ℕ
+chain_text t ions = codes "T" ++ decimal t ++ ions_text ions ++ codes "\n"
+
+abbrev pub ops_head : ℕ → List ℕ
+ops_head n = codes "ops " ++ decimal n ++ codes "\n"
+
+abbrev pub op_line_text : ℕ → OpKind → List ℕ
+op_line_text k op = decimal k ++ codes " " ++ op_text op ++ codes "\n"
+
+abbrev pub front_text : ProgramData → List ℕ
+front_text p = counts_text p.qubits p.bits ++ traps_head (length p.start) ++ numbered_texts chain_text 0 p.start
+
+abbrev pub back_text : List OpKind → List ℕ
+back_text ops = ops_head (length ops) ++ numbered_texts op_line_text 0 ops ++ codes "end\n"

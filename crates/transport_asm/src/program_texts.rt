@@ -1,0 +1,146 @@
+//! Programs, sent as their texts.
+
+ghost use Rattle.std.specs.Prelude.{◌≡◌, ◌++◌, ℕ, codes, decimal, flat_map, length};
+ghost use Rattle.qccd_io.specs.Sends.{Sends};
+ghost use Rattle.transport_asm.specs.OpText.{next_word};
+ghost use Rattle.transport_asm.specs.ProgramText.{program_text, counts_text, traps_head, ions_text, chain_text, ops_head, op_line_text, numbered_texts, front_text, back_text};
+
+use crate::writing::write_op;
+use claim_core::Program;
+use op_table::Op;
+use qccd_base::{Ion, TrapId, number_text};
+use qccd_io::{Failed, Sink, send, send_all, send_labelled};
+
+fn send_qubit_count<S: Sink>(sink: &mut S, qubits: u16) -> Result<(), Failed>
+    ensures { Sends S.taken S.faults S.behind sink.old sink.new result (codes "QCCD 1\nqubits " ++ decimal qubits) }
+{
+    send_labelled(sink, b"QCCD 1\nqubits ", u64::from(qubits))
+}
+
+fn send_bit_count<S: Sink>(sink: &mut S, bits: u16) -> Result<(), Failed>
+    ensures { Sends S.taken S.faults S.behind sink.old sink.new result (codes "\nbits " ++ decimal bits) }
+{
+    send_labelled(sink, b"\nbits ", u64::from(bits))
+}
+
+// The first line, and the numbers of qubits and bits.
+fn send_counts<S: Sink>(sink: &mut S, qubits: u16, bits: u16) -> Result<(), Failed>
+    ensures { Sends S.taken S.faults S.behind sink.old sink.new result (counts_text qubits bits) }
+{
+    send_qubit_count(sink, qubits)?;
+    send_bit_count(sink, bits)
+}
+
+// The end of that line, and the line of the number of traps.
+fn send_traps_head<S: Sink>(sink: &mut S, traps: u8) -> Result<(), Failed>
+    ensures { Sends S.taken S.faults S.behind sink.old sink.new result (traps_head traps) }
+{
+    let traps = number_text(u64::from(traps));
+    send_all(sink, &[b"\ntraps ", traps.as_bytes(), b"\n"])
+}
+
+fn send_ion<S: Sink>(sink: &mut S, ion: Ion) -> Result<(), Failed>
+    ensures { Sends S.taken S.faults S.behind sink.old sink.new result (next_word (decimal ion.0)) }
+{
+    send_labelled(sink, b" ", u64::from(ion.0))
+}
+
+fn send_ions<S: Sink>(sink: &mut S, ions: &[Ion]) -> Result<(), Failed>
+    ensures { Sends S.taken S.faults S.behind sink.old sink.new result (ions_text ions.now) }
+{
+    for ion in ions {
+        send_ion(sink, *ion)?;
+    }
+    Ok(())
+}
+
+fn send_trap<S: Sink>(sink: &mut S, trap: u8) -> Result<(), Failed>
+    ensures { Sends S.taken S.faults S.behind sink.old sink.new result (codes "T" ++ decimal trap) }
+{
+    send_labelled(sink, b"T", u64::from(trap))
+}
+
+// The line of a trap's chain.
+fn send_chain<S: Sink>(sink: &mut S, trap: u8, ions: &[Ion]) -> Result<(), Failed>
+    ensures { Sends S.taken S.faults S.behind sink.old sink.new result (chain_text trap ions.now) }
+{
+    send_trap(sink, trap)?;
+    send_ions(sink, ions)?;
+    send(sink, b"\n")
+}
+
+// The lines of all chains.
+fn send_chains<S: Sink>(sink: &mut S, program: &Program) -> Result<(), Failed>
+    ensures { Sends S.taken S.faults S.behind sink.old sink.new result (numbered_texts chain_text 0 program.now.start) }
+{
+    // There are as many chains as traps, as the contract of the operations tells.
+    let _ops = program.ops();
+    let traps = program.machine().traps();
+    for trap in 0..traps {
+        send_chain(sink, trap, program.start(TrapId(trap)))?;
+    }
+    Ok(())
+}
+
+// The line of the number of operations.
+fn send_ops_head<S: Sink>(sink: &mut S, ops: u64) -> Result<(), Failed>
+    ensures { Sends S.taken S.faults S.behind sink.old sink.new result (ops_head ops) }
+{
+    let ops = number_text(ops);
+    send_all(sink, &[b"ops ", ops.as_bytes(), b"\n"])
+}
+
+// The number of an operation, in front of its text.
+fn send_op_number<S: Sink>(sink: &mut S, number: u64) -> Result<(), Failed>
+    ensures { Sends S.taken S.faults S.behind sink.old sink.new result (decimal number ++ codes " ") }
+{
+    let number = number_text(number);
+    send_all(sink, &[number.as_bytes(), b" "])
+}
+
+// The line of an operation.
+fn send_op<S: Sink>(sink: &mut S, number: u64, op: &Op) -> Result<(), Failed>
+    ensures { Sends S.taken S.faults S.behind sink.old sink.new result (op_line_text number op.now) }
+{
+    send_op_number(sink, number)?;
+    write_op(op, sink)?;
+    send(sink, b"\n")
+}
+
+// The lines of all operations.
+fn send_ops<S: Sink>(sink: &mut S, ops: &[Op]) -> Result<(), Failed>
+    ensures { Sends S.taken S.faults S.behind sink.old sink.new result (numbered_texts op_line_text 0 ops.now) }
+{
+    for (number, op) in ops.iter().enumerate() {
+        send_op(sink, number as u64, op)?;
+    }
+    Ok(())
+}
+
+// The numbers and the chains.
+fn send_front<S: Sink>(sink: &mut S, program: &Program) -> Result<(), Failed>
+    ensures { Sends S.taken S.faults S.behind sink.old sink.new result (front_text program.now) }
+{
+    let _ops = program.ops();
+    send_counts(sink, program.qubits(), program.bits())?;
+    send_traps_head(sink, program.machine().traps())?;
+    send_chains(sink, program)
+}
+
+// The operations, and the last line.
+fn send_back<S: Sink>(sink: &mut S, ops: &[Op]) -> Result<(), Failed>
+    ensures { Sends S.taken S.faults S.behind sink.old sink.new result (back_text ops.now) }
+{
+    send_ops_head(sink, ops.len() as u64)?;
+    send_ops(sink, ops)?;
+    send(sink, b"end\n")
+}
+
+/// Appends the text of the program, line by line. Where it fails, a prefix of the text was appended and
+/// the count of faults rose. It takes no memory.
+pub fn write_program<S: Sink>(program: &Program, sink: &mut S) -> Result<(), Failed>
+    ensures { Sends S.taken S.faults S.behind sink.old sink.new result (program_text program.now) }
+{
+    send_front(sink, program)?;
+    send_back(sink, program.ops())
+}
