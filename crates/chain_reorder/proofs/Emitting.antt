@@ -1,5 +1,5 @@
 -- A list of operations appended to a plan one by one.
-use Rattle.std.proofs.Common.{◌≡◌, ℕ, ◌+◌, ◌<◌, ◌≤◌, true, List, [], ◌∷◌, length, get_or, sym, ◌∙◌, ap, ap₂, subst, Some, length-append, append-nil}
+use Rattle.std.proofs.Common.{arith, ◌≡◌, ℕ, ◌+◌, ◌-◌, ◌<◌, ◌≤◌, true, List, [], ◌∷◌, length, get_or, sym, ◌∙◌, ap, ap₂, subst, Some, length-append, append-nil}
 use Rattle.std.proofs.lemmas.Bool.{lt-ltb}
 use Rattle.std.proofs.lemmas.Option.{same_Some}
 use Rattle.qccd_base.specs.declared.names.Qubit.{Qubit}
@@ -20,6 +20,7 @@ use Rattle.op_plan.proofs.Runs.{one_less, state_safe}
 use Rattle.op_plan.proofs.Stands.{Found}
 use Rattle.op_plan.proofs.Told.{found_there, trap_there}
 use Rattle.chain_reorder.specs.Reorder.{reorder_ops, to_end}
+use Rattle.chain_reorder.proofs.Reorder.{to_end_short}
 
 pub agrees_more : (m : MachineData) (cur new : PlanData) (ops : List OpKind) → Agrees m cur → new ≡ with_ops cur ops → Agrees m new
 agrees_more m cur new ops agrees is = subst (Agrees m) (sym is) (record { capacities = agrees.capacities; junctions = agrees.junctions; segments = agrees.segments })
@@ -108,3 +109,11 @@ capacity_small m p t valid agrees less =
 pub listed : (p : PlanData) (q : Qubit) (t : TrapId) (n at : ℕ) (e end : End) (d mode : Mode) → Reached p q t n at → mode ≡ d → end ≡ e → to_end t.0 n at e d ≡ reorder_ops (state_of p) q end mode
 listed p q t n at e end d mode r mode_is end_is =
     sym (r.ops e d) ∙ ap₂ (λ (x : End) (y : Mode). reorder_ops (state_of p) q x y) (sym end_is) (sym mode_is)
+
+pub few_ops : (p : PlanData) (q : Qubit) (t : TrapId) (end : End) (mode : Mode) → IsPlan p → q.0 < p.qubits → home (state_of p) q ≡ Some t → length (reorder_ops (state_of p) q end mode) ≤ get_or p.capacities t.0 0 - 1
+few_ops p q t end mode plan below own =
+    let st : Standing p q t = standing p q t plan below own in
+    let short = to_end_short t.0 (ions_in (state_of p) t.0) st.index end mode st.within in
+    let same = ap (λ (ops : List OpKind). length ops) (st.ops end mode) in
+    let fits = st.fits in
+    omega (arith, short, same, fits)

@@ -50,10 +50,10 @@ find_passes p (y ∷ ys) x h = elim (cases_Bool (p y)) [
   | inr not_y ↦ find_passes p ys x (rw not_y at h)
 ]
 
-no_rider : (s : State) (l : Layout) (g : ℕ) → Lies s l → l.riders g ≡ None → rider_on s g ≡ None
+pub no_rider : (s : State) (l : Layout) (g : ℕ) → Lies s l → l.riders g ≡ None → rider_on s g ≡ None
 no_rider s l g lies free = none_mapped riding (rider_on s g) (found riding (λ (w : Stand). is_on_segment g w.place) s.ions None (lies.riders g ∙ ap listed free))
 
-no_carry : (s : State) (l : Layout) (j : ℕ) → Lies s l → l.carries j ≡ None → rider_in s j ≡ None
+pub no_carry : (s : State) (l : Layout) (j : ℕ) → Lies s l → l.carries j ≡ None → rider_in s j ≡ None
 no_carry s l j lies free = none_mapped (λ (w : Stand). w.qubit) (rider_in s j) (found (λ (w : Stand). w.qubit) (λ (w : Stand). is_in_junction j w.place) s.ions None (lies.carries j ∙ ap listed free))
 
 same_end_own : (e : SegEnd) → same_seg_end e e ≡ true

@@ -30,6 +30,7 @@ pub fn to_end(
     requires stands { home (state_of plan.old) qubit ≡ Some trap }
     requires room { length plan.old.ops + (get_or plan.old.capacities trap.0 0 - 1) ≤ 4194304 }
     ensures done { OnOk result (plan.new ≡ with_ops plan.old (reorder_ops (state_of plan.old) qubit end mode)) }
+    ensures few { length (reorder_ops (state_of plan.old) qubit end mode) ≤ get_or plan.old.capacities trap.0 0 - 1 }
     ensures refused { OnErr result (Continues plan.old plan.new) }
 {
     // The machine's traps take few ions, and the plan is a run, as the contracts of these tell.

@@ -124,7 +124,7 @@ path_is_first w t (suc n) from =
 -- ---- the path of a hop
 
 -- the segments of a path are there, and there is one at least
-path_there : (w : WiringData) (t : ℕ) (path : List ℕ) (from : Res) → is_path w t path from ≡ true → AllByRecursion (λ g. g < length w.segments) path
+pub path_there : (w : WiringData) (t : ℕ) (path : List ℕ) (from : Res) → is_path w t path from ≡ true → AllByRecursion (λ g. g < length w.segments) path
 path_there w t [] from on = tt
 path_there w t (g ∷ path) from on = by_way (λ j. path_there w t path (res.Junc j)) (way_along w from g) refl on
   where

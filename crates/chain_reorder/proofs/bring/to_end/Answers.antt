@@ -4,7 +4,7 @@ use Rattle.qccd_base.specs.declared.names.Mode.TheVariants.{IonSwap, GateSwap}
 use Rattle.op_table.specs.declared.kinds.OpKind.{OpKind}
 use Rattle.op_plan.specs.Plan.{state_of, wired, with_ops}
 use Rattle.op_plan.proofs.Told.{trap_there}
-use Rattle.chain_reorder.proofs.Emitting.{capacity_small, listed, reached}
+use Rattle.chain_reorder.proofs.Emitting.{capacity_small, few_ops, listed, reached}
 use Rattle.chain_reorder.proofs.Running.{runs_down, runs_swap, runs_up, swap_right}
 use Rattle.chain_reorder.proofs.bring.to_end.Goals as goal
 
@@ -98,3 +98,18 @@ returns-in-GateSwap-Right-clause-done c =
     subst (λ (ops : List OpKind). OnOk c.exchange-in-GateSwap-Right.result (c.exchange-in-GateSwap-Right.new.plan ≡ with_ops c.args.plan.now ops))
     (swap_right c.args.trap.0 (length c.chain.result.now) c.in-Some.at r.within ∙ listed c.args.plan.now c.args.qubit c.args.trap (length c.chain.result.now) c.in-Some.at Right c.args.end GateSwap c.args.mode r c.in-GateSwap-Right.is-0 c.in-GateSwap-Right.is-1)
     c.exchange-in-GateSwap-Right.ensures.done
+
+pub returns-in-None-clause-few : goal.returns-in-None-clause-few
+returns-in-None-clause-few c = few_ops c.args.plan.now c.args.qubit c.args.trap c.args.end c.args.mode c.ops-ops.ensures.is_plan c.requires.there c.requires.stands
+
+pub returns-in-IonSwap-Left-clause-few : goal.returns-in-IonSwap-Left-clause-few
+returns-in-IonSwap-Left-clause-few c = few_ops c.args.plan.now c.args.qubit c.args.trap c.args.end c.args.mode c.ops-ops.ensures.is_plan c.requires.there c.requires.stands
+
+pub returns-in-IonSwap-Right-clause-few : goal.returns-in-IonSwap-Right-clause-few
+returns-in-IonSwap-Right-clause-few c = few_ops c.args.plan.now c.args.qubit c.args.trap c.args.end c.args.mode c.ops-ops.ensures.is_plan c.requires.there c.requires.stands
+
+pub returns-in-GateSwap-Left-clause-few : goal.returns-in-GateSwap-Left-clause-few
+returns-in-GateSwap-Left-clause-few c = few_ops c.args.plan.now c.args.qubit c.args.trap c.args.end c.args.mode c.ops-ops.ensures.is_plan c.requires.there c.requires.stands
+
+pub returns-in-GateSwap-Right-clause-few : goal.returns-in-GateSwap-Right-clause-few
+returns-in-GateSwap-Right-clause-few c = few_ops c.args.plan.now c.args.qubit c.args.trap c.args.end c.args.mode c.ops-ops.ensures.is_plan c.requires.there c.requires.stands

@@ -1,0 +1,5 @@
+pub mod Bring
+pub mod Items
+pub mod Chosen
+pub mod Compiled
+pub mod Example

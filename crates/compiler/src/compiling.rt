@@ -1,0 +1,152 @@
+//! A circuit is compiled.
+
+ghost use Rattle.std.specs.Prelude.{◌≡◌, ◌≤◌, ◌<◌, ◌-◌, ℕ, IfErr, OnOk, length};
+ghost use Rattle.qccd_circuit.specs.Circuit.{IsCircuit};
+ghost use Rattle.qccd_machine.specs.Machine.{slots_of, worst_of};
+ghost use Rattle.op_plan.specs.Plan.{Agrees};
+ghost use Rattle.gate_scheduler.specs.Order.{order};
+ghost use Rattle.router.specs.Wiring.{wiring_of};
+ghost use Rattle.compiler.specs.Chosen.{chosen_long, planned};
+ghost use Rattle.compiler.specs.Compiled.{IsCompiled, IsRefused};
+
+use crate::items::compile_item;
+use claim_core::Program;
+use gate_scheduler::order;
+use ion_mapping::{MapFault, place};
+use op_plan::Plan;
+use qccd_base::{Mode, NoMemory};
+use qccd_circuit::Circuit;
+use qccd_machine::Machine;
+use router::Routes;
+use std::alloc::Global;
+use thiserror::Error;
+
+/// Why a circuit has no program for a machine.
+#[derive(Clone, Copy, Debug, PartialEq, Eq, Hash, Error)]
+pub enum CompileFault {
+    /// The circuit has more qubits than the machine has slots for.
+    #[error("{qubits} qubits, {slots} slots")]
+    Shortage { qubits: u32, slots: u32 },
+    /// After so many of the items there are so many operations that the next item might pass the limit of
+    /// 4,194,304.
+    #[error("too long: {done} items took {ops} operations, the limit is 4194304")]
+    TooLong { done: u32, ops: u32 },
+    /// Memory ran out.
+    #[error("no memory")]
+    NoMemory,
+}
+
+impl From<NoMemory> for CompileFault {
+    ghost use Rattle.std.specs.Prelude.{◌≡◌};
+    ghost use Rattle.compiler.specs.declared.compiling.CompileFault.TheVariants.{NoMemory};
+
+    ghost from_gives = { λ _ e. e ≡ NoMemory };
+
+    fn from(_refused: NoMemory) -> CompileFault {
+        CompileFault::NoMemory
+    }
+}
+
+impl From<MapFault> for CompileFault {
+    ghost use Rattle.std.specs.Prelude.{◌≡◌};
+    ghost use Rattle.compiler.specs.Compiled.{of_placement};
+
+    ghost from_gives = { λ f e. e ≡ of_placement f };
+
+    fn from(fault: MapFault) -> CompileFault {
+        match fault {
+            MapFault::Shortage { qubits, slots } => CompileFault::Shortage { qubits, slots },
+            MapFault::NoMemory => CompileFault::NoMemory,
+        }
+    }
+}
+
+// How many operations a program may have.
+const MOST_OPS: u32 = 4194304;
+
+/// The chosen program of the circuit for the machine: it implements the circuit, its items in the order by
+/// level, with no more operations for an item than the bound.
+///
+/// `Shortage` comes exactly where the circuit has more qubits than the machine takes, and `TooLong` at the
+/// first item before which there are so many operations that those of one more may be too many.
+pub fn compile(
+    alloc: Global,
+    circuit: &Circuit,
+    machine: Machine,
+    mode: Mode,
+) -> Result<Program, CompileFault>
+    ensures { IsCompiled circuit.now machine mode result }
+{
+    let _traps = machine.traps();
+    let _items = circuit.items();
+    let start = place(alloc, circuit, &machine)?;
+    let numbers = order(alloc, circuit)?;
+    let routes = Routes::of(alloc, &machine)?;
+    let mut plan = Plan::begin(
+        alloc,
+        &machine,
+        circuit.qubits(),
+        circuit.bits(),
+        start.as_slice(),
+    )?;
+    compile_items(
+        alloc,
+        circuit,
+        &machine,
+        &routes,
+        &mut plan,
+        numbers.as_slice(),
+        mode,
+    )?;
+    let _ops = plan.ops();
+    let program = Program::of(
+        alloc,
+        machine,
+        circuit.qubits(),
+        circuit.bits(),
+        start,
+        plan.into_ops(),
+    )?;
+    Ok(program)
+}
+
+// The items of these numbers, one after another.
+fn compile_items(
+    alloc: Global,
+    circuit: &Circuit,
+    machine: &Machine,
+    routes: &Routes,
+    plan: &mut Plan,
+    numbers: &[u32],
+    mode: Mode,
+) -> Result<(), CompileFault>
+    requires slots { circuit.now.qubits ≤ slots_of machine.now }
+    requires routes { routes.now ≡ wiring_of machine.now }
+    requires plan { plan.old ≡ planned circuit.now machine.now mode 0 }
+    requires numbers { numbers.now ≡ order circuit.now.items }
+    ensures done { OnOk result (plan.new ≡ planned circuit.now machine.now mode (length circuit.now.items)) }
+    ensures fits { OnOk result ((count : ℕ) → count < length circuit.now.items → chosen_long circuit.now machine.now mode count ≤ 4194304 - worst_of machine.now) }
+    ensures refused { IfErr result (IsRefused circuit.now machine.now mode) }
+{
+    let _traps = machine.traps();
+    let items = circuit.items();
+    for (done, number) in numbers.iter().enumerate() {
+        let ops = plan.ops().len() as u32;
+        if ops > MOST_OPS - machine.worst() {
+            return Err(CompileFault::TooLong {
+                done: done as u32,
+                ops,
+            });
+        }
+        compile_item(
+            alloc,
+            machine,
+            routes,
+            plan,
+            *number,
+            &items[*number as usize],
+            mode,
+        )?;
+    }
+    Ok(())
+}

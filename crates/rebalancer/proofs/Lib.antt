@@ -1,0 +1,13 @@
+pub mod Along
+pub mod Hopped
+pub mod Plain
+pub mod Room
+pub mod Nearest
+pub mod Standing
+pub mod Settled
+pub mod Results
+pub mod Appending
+pub mod Planned
+pub mod Going
+pub mod Searching
+pub mod Handing

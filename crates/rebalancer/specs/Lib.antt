@@ -1,0 +1,6 @@
+pub mod Outside
+pub mod Hop
+pub mod Room
+pub mod Moves
+pub mod Goal
+pub mod Example
