@@ -4,6 +4,8 @@ ghost use Rattle.std.specs.Prelude.{◌≡◌};
 ghost use Rattle.qasm_reader.specs.Kind.{kind_text, many_text};
 
 use std::alloc::{AllocError, AllocFailed};
+use std::fmt;
+use thiserror::Error;
 
 /// What there may be too many of.
 #[derive(Clone, Copy, Debug, PartialEq, Eq, Hash)]
@@ -21,13 +23,13 @@ pub enum Many {
 /// What is wrong with a text.
 #[derive(Clone, Copy, Debug, PartialEq, Eq, Hash)]
 pub enum QasmKind {
-    /// The text does not begin as it has to.
+    /// The text does not begin with `OPENQASM 2.0;`.
     Header,
-    /// Bytes that are no word, number or sign.
+    /// A byte that begins no word, number, string or sign.
     Token,
-    /// A word, number or sign where none such may stand.
+    /// A token that cannot stand where it stands, or the end of the text inside a statement.
     Syntax,
-    /// An include of another file than the one that is known.
+    /// An include of another file than `qelib1.inc`.
     UnknownInclude,
     /// A name that is taken already.
     DuplicateName,
@@ -35,11 +37,12 @@ pub enum QasmKind {
     UnknownName,
     /// A quantum register where a classical one is asked for, or the other way round.
     WrongKind,
-    /// A place at or past the end of its register.
+    /// An index that is not below the size of its register.
     IndexOut,
-    /// Registers that have to be of one size and are not.
+    /// Registers of one gate or measurement that are not of one size, or a measurement between a
+    /// register and a cell.
     SizeMismatch,
-    /// A gate on one qubit twice.
+    /// A gate on one qubit twice, or on a register and a cell of it.
     SameQubit,
     /// More or fewer angles than the gate takes.
     AngleCount,
@@ -49,17 +52,30 @@ pub enum QasmKind {
     EmptyRegister,
     /// More of something than the limit.
     TooMany { what: Many, limit: u32 },
-    /// A text that may be right, but is of no form that is read yet.
+    /// A statement that is not built yet: one whose first word is `gate`, `opaque` or `if`.
     NotBuilt,
 }
 
 /// Why there is no circuit.
-#[derive(Clone, Copy, Debug, PartialEq, Eq, Hash)]
+#[derive(Clone, Copy, Debug, PartialEq, Eq, Hash, Error)]
 pub enum QasmFault {
     /// The text is refused for what stands at this byte, counted from 0.
+    #[error("byte {at}: {kind}")]
     Refused { at: u32, kind: QasmKind },
     /// Memory ran out.
+    #[error("no memory")]
     NoMemory,
+}
+
+impl fmt::Display for QasmKind {
+    ghost use Rattle.std.specs.Prelude.{Some};
+    ghost use Rattle.qasm_reader.specs.Kind.{kind_text};
+
+    ghost output = { λ kind. Some (kind_text kind) };
+
+    fn fmt<W: fmt::Write>(&self, f: &mut fmt::Formatter<W>) -> fmt::Result {
+        f.write_str(self.text())
+    }
 }
 
 impl From<AllocError> for QasmFault {

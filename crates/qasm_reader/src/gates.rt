@@ -1,58 +1,96 @@
-//! The gates of the form that is read, and the items that they are.
+//! The gates that are known by name.
 
-ghost use Rattle.std.specs.Prelude.{◌≡◌, IfOk};
-ghost use Rattle.qccd_circuit.specs.Item.{Fits};
-ghost use Rattle.qasm_reader.specs.Gate.{IsApart, item_of, plain_gate};
+ghost use Rattle.std.specs.Prelude.{◌≡◌, map, option_map};
+ghost use Rattle.qasm_reader.specs.Gates.{gate_in, gate_of};
+ghost use Rattle.qasm_reader.specs.Named.{row_gate, shape};
 
-use qccd_base::{BitList, NoMemory, Qubit, QubitList};
-use qccd_circuit::{AngleList, Item, ItemKind, Name};
-use std::alloc::Global;
+use crate::words::same;
 
-/// A gate of the form, with its qubits.
-#[derive(Clone, Copy, Debug, PartialEq, Eq, Hash)]
-pub(crate) enum Gate {
-    /// A Hadamard gate.
-    H(Qubit),
-    /// A negation.
-    X(Qubit),
-    /// A negation of the second qubit where the first is set.
-    Cx(Qubit, Qubit),
+/// A gate that is known by its name.
+#[derive(Clone, Copy, Debug)]
+pub(crate) struct KnownGate {
+    pub(crate) name: &'static [u8],
+    /// How many angles it takes.
+    pub(crate) angles: u8,
+    /// How many qubits it takes.
+    pub(crate) qubits: u8,
 }
 
-impl Gate {
-    /// The gate as an item.
-    pub(crate) fn item(self, alloc: Global) -> Result<Item, NoMemory>
-        requires { IsApart self }
-        ensures { IfOk result (λ item. item ≡ item_of self) }
-    {
-        match self {
-            Gate::H(qubit) => plain_gate(alloc, ItemKind::Gate1, b"h", &[qubit]),
-            Gate::X(qubit) => plain_gate(alloc, ItemKind::Gate1, b"x", &[qubit]),
-            Gate::Cx(control, target) => {
-                plain_gate(alloc, ItemKind::Gate2, b"cx", &[control, target])
+// The gates that every text may use: name, angles, qubits.
+const ALWAYS: [(&[u8], u8, u8); 2] = [(b"U", 3, 1), (b"CX", 0, 2)];
+
+// The gates that a text may use after the include: name, angles, qubits.
+const INCLUDED: [(&[u8], u8, u8); 37] = [
+    (b"id", 0, 1),
+    (b"x", 0, 1),
+    (b"y", 0, 1),
+    (b"z", 0, 1),
+    (b"h", 0, 1),
+    (b"s", 0, 1),
+    (b"sdg", 0, 1),
+    (b"t", 0, 1),
+    (b"tdg", 0, 1),
+    (b"u1", 1, 1),
+    (b"rx", 1, 1),
+    (b"ry", 1, 1),
+    (b"rz", 1, 1),
+    (b"u2", 2, 1),
+    (b"u3", 3, 1),
+    (b"cx", 0, 2),
+    (b"cz", 0, 2),
+    (b"cy", 0, 2),
+    (b"ch", 0, 2),
+    (b"crz", 1, 2),
+    (b"cu1", 1, 2),
+    (b"cu3", 3, 2),
+    (b"ccx", 0, 3),
+    (b"sx", 0, 1),
+    (b"sxdg", 0, 1),
+    (b"p", 1, 1),
+    (b"u0", 1, 1),
+    (b"u", 3, 1),
+    (b"swap", 0, 2),
+    (b"csx", 0, 2),
+    (b"crx", 1, 2),
+    (b"cry", 1, 2),
+    (b"cp", 1, 2),
+    (b"rxx", 1, 2),
+    (b"rzz", 1, 2),
+    (b"cu", 4, 2),
+    (b"cswap", 0, 3),
+];
+
+// The gate of this name among some.
+fn gate_in(gates: &[(&'static [u8], u8, u8)], name: &[u8]) -> Option<KnownGate>
+    ensures { option_map shape result ≡ gate_in (map row_gate gates.now) name.now }
+{
+    let mut left = gates;
+    while let [gate, rest @ ..] = left {
+        if same(name, gate.0) {
+            let (name, angles, qubits) = *gate;
+            return Some(KnownGate {
+                name,
+                angles,
+                qubits,
+            });
+        }
+        left = rest;
+    }
+    None
+}
+
+/// The gate of this name, before the include or after it.
+pub(crate) fn gate_of(included: bool, name: &[u8]) -> Option<KnownGate>
+    ensures { option_map shape result ≡ gate_of included name.now }
+{
+    match gate_in(&ALWAYS, name) {
+        Some(gate) => Some(gate),
+        None => {
+            if included {
+                gate_in(&INCLUDED, name)
+            } else {
+                None
             }
         }
     }
-}
-
-// The gate of this name on these qubits, with no angle.
-fn plain_gate(
-    alloc: Global,
-    kind: ItemKind,
-    name: &[u8],
-    qubits: &[Qubit],
-) -> Result<Item, NoMemory>
-    requires { Fits (plain_gate kind name.now qubits.now) }
-    ensures { IfOk result (λ item. item ≡ plain_gate kind name.now qubits.now) }
-{
-    let name = Vec::from_slice(alloc, name)?;
-    let qubits = Vec::from_slice(alloc, qubits)?;
-    Ok(Item::of(
-        kind,
-        Name::of(name),
-        AngleList::of(Vec::new(alloc)),
-        QubitList::of(qubits),
-        BitList::of(Vec::new(alloc)),
-        None,
-    ))
 }

@@ -1,15 +1,29 @@
-//! The reading of circuits, as texts in OpenQASM 2.0. One small form is read for now.
+//! The reading of circuits, as texts in OpenQASM 2.0.
 #![tactic(auto)]
 
+mod angle;
+mod angle_lists;
+mod angles;
+mod barriers;
+mod cursor;
 mod fault;
+mod gate_statements;
 mod gates;
-mod heads;
-mod laws;
-mod lines;
+mod items;
+mod kinds;
+pub mod laws;
+mod names;
+mod operand;
+mod operands;
 mod pieces;
 mod reading;
+mod registers;
+mod state;
+mod statements;
+#[cfg(test)]
+mod tests;
+mod words;
 pub mod worked;
 
 pub use fault::{Many, QasmFault, QasmKind};
-pub use laws::{one_answer, one_reading};
 pub use reading::read;

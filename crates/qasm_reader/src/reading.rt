@@ -1,101 +1,144 @@
 //! From a text to its circuit.
 
-ghost use Rattle.std.specs.Prelude.{◌≤◌, IfErr, IfNone, IfOk, IfSome, length};
+ghost use Rattle.std.specs.Prelude.{◌≤◌, ◌≡◌, ◌⊎◌, ◌∷◌, All, IsTrue, IsErrAnd, Ok, IfErr, IfOk, List, MatchResult, length, ℕ};
 ghost use Rattle.qccd_circuit.specs.Circuit.{CircuitData};
-ghost use Rattle.qasm_reader.specs.FirstForm.{IsFirstForm};
-ghost use Rattle.qasm_reader.specs.Reading.{IsCircuitOf, IsFaultOf, IsPlain};
+ghost use Rattle.qasm_reader.specs.declared.fault.QasmKind.{QasmKind};
+ghost use Rattle.qasm_reader.specs.declared.fault.QasmFault.TheVariants as fault;
+ghost use Rattle.qasm_reader.specs.Reading.{IsCircuitOf, IsRefusedAt, heading};
+ghost use Rattle.qasm_lex.specs.Reading.{AreTokens};
+ghost use Rattle.qasm_lex.specs.declared.tokens.TokenKind.{TokenKind};
+ghost use Rattle.qasm_reader.specs.Lexeme.{LiesIn, has_angle_bytes, lexeme};
+ghost use Rattle.qasm_reader.specs.Known.{Known, circuit_of, nothing};
+ghost use Rattle.qasm_reader.specs.Expected.{behind_header, between, header};
+ghost use Rattle.qasm_reader.specs.Sound.{IsSound};
+ghost use Rattle.qasm_reader.specs.Code.{IsFaultOf, Leads, answer_from, known};
 
+use crate::cursor::Cursor;
 use crate::fault::{QasmFault, QasmKind};
-use crate::heads::read_head;
-use crate::lines::read_lines;
+use crate::pieces::refused;
+use crate::state::State;
+use crate::statements::statement;
+use crate::words::{is, same};
+use qasm_lex::{LexFault, Token, TokenKind, lex};
 use qccd_base::NoMemory;
 use qccd_circuit::Circuit;
 use std::alloc::Global;
 
-/// The circuit of the text.
+// Takes one of the first tokens.
+#[tactic(auto, unfolding(crate::specs::Reading::reads))]
+fn header_token<'a>(
+    kind: TokenKind,
+    bytes: &[u8],
+    cursor: &Cursor<'a>,
+) -> Result<Cursor<'a>, QasmFault>
+    ensures { (k : Known) (ts : List (TokenKind × List ℕ)) → Leads (answer_from k (header ((kind, bytes.now) ∷ ts)) cursor.now)
+        (answer_from k (behind_header ts)) result }
+{
+    match cursor.next() {
+        Some((piece, rest)) => {
+            if is(kind, &piece) && same(piece.bytes, bytes) {
+                Ok(rest)
+            } else {
+                Err(refused(piece.at, QasmKind::Header))
+            }
+        }
+        None => Err(refused(cursor.end(), QasmKind::Header)),
+    }
+}
+
+// Takes the first three tokens.
+#[tactic(auto, using(crate::proofs::Leading::leads))]
+fn header<'a>(cursor: &Cursor<'a>) -> Result<Cursor<'a>, QasmFault>
+    ensures { Leads (answer_from nothing (header heading) cursor.now) (answer_from nothing between) result }
+{
+    let rest = header_token(TokenKind::Word, b"OPENQASM", cursor)?;
+    let rest = header_token(TokenKind::Real, b"2.0", &rest)?;
+    header_token(TokenKind::Semi, b";", &rest)
+}
+
+// The circuit of what is known.
+fn build(alloc: Global, state: State) -> Result<Circuit, NoMemory>
+    requires { IsSound (known state) }
+    ensures { IfOk result (λ c. c ≡ circuit_of (known state)) }
+{
+    let State {
+        qubits,
+        bits,
+        items,
+        ..
+    } = state;
+    let mut circuit = Circuit::begin(alloc, qubits, bits);
+    for item in items {
+        circuit.add(item)?;
+    }
+    Ok(circuit)
+}
+
+// The circuit of the tokens.
+#[tactic(auto, unfolding(crate::specs::Reading::reads))]
+fn circuit_from(alloc: Global, cursor: &Cursor<'_>) -> Result<Circuit, QasmFault>
+    ensures { Leads (answer_from nothing (header heading) cursor.now) (λ c. Ok c) result }
+{
+    let mut state = State::new(alloc);
+    let mut rest = header(cursor)?;
+    while let Some((first, behind)) = rest.next() {
+        rest = statement(alloc, &mut state, &first, &behind)?;
+    }
+    Ok(build(alloc, state)?)
+}
+
+// The tokens of the text.
+fn tokens_of(alloc: Global, text: &[u8]) -> Result<Vec<Token>, QasmFault>
+    requires { length text.now ≤ 16777216 }
+    ensures tokens { IfOk result (λ ts. AreTokens text.now ts.items) }
+    ensures each { IfOk result (λ ts. All (LiesIn text.now) ts.items) }
+    ensures bytes { IfOk result (λ ts. All (λ t. IsTrue (has_angle_bytes (lexeme text.now t))) ts.items) }
+    ensures fault { IfErr result (IsFaultOf text.now) }
+{
+    match lex(alloc, text) {
+        Ok(tokens) => Ok(tokens),
+        Err(LexFault::BadByte { at }) => Err(refused(at, QasmKind::Token)),
+        Err(LexFault::OpenString { at }) => Err(refused(at, QasmKind::Token)),
+        Err(LexFault::NoMemory) => Err(QasmFault::NoMemory),
+    }
+}
+
+// The circuit of the text, or its fault.
+fn answer(alloc: Global, text: &[u8]) -> Result<Circuit, QasmFault>
+    requires { length text.now ≤ 16777216 }
+    ensures circuit { IfOk result (IsCircuitOf text.now) }
+    ensures fault { IfErr result (IsFaultOf text.now) }
+{
+    let tokens = tokens_of(alloc, text)?;
+    circuit_from(
+        alloc,
+        &Cursor {
+            text,
+            rest: &tokens,
+        },
+    )
+}
+
+/// The circuit of the text, which is OpenQASM 2.0 with the names of `qelib1.inc` and without
+/// definitions of gates, opaque gates and conditions. The text has at most 16,777,216 bytes.
 ///
-/// A text of no circuit is `Refused` at a byte, counted from 0, with what is wrong there. For now
-/// that is always byte 0 and `NotBuilt`.
+/// Tokens are read from left to right, and the first fault that is decided is told as `Refused`, with
+/// its byte, counted from 0, and its kind. Of two faults that are decided at one token the one whose
+/// kind stands first in `QasmKind` is told. Where the text has no list of tokens, that is told first.
+/// `NoMemory` tells that memory ran out.
+///
+/// A gate on whole registers is applied to their first cells, then to their second cells, and so on;
+/// a cell beside registers is repeated. `ccx` and `cswap` are given as gates on one and two qubits.
 pub fn read(alloc: Global, text: &[u8]) -> Result<Circuit, QasmFault>
     requires { length text.now ≤ 16777216 }
-    ensures found { IfOk result (λ c. IsCircuitOf text.now c) }
-    ensures refused { IfErr result (λ e. IsFaultOf text.now e) }
-    ensures plain { IfOk result IsPlain }
+    ensures circuit { IfOk result (IsCircuitOf text.now) }
+    ensures fault { IfErr result (IsFaultOf text.now) }
+    // A text of a circuit is answered with it, and one that is refused with its fault, unless memory runs out.
+    ensures read { (c : CircuitData) → IsCircuitOf text.now c → MatchResult result (λ found. found ≡ c) (λ e. e ≡ fault.NoMemory) }
+    ensures refused { (at : ℕ) (kind : QasmKind) → IsRefusedAt text.now at kind → IsErrAnd result (λ e. (e ≡ fault.Refused at kind) ⊎ (e ≡ fault.NoMemory)) }
 {
-    match read_form(alloc, text)? {
-        Some(circuit) => Ok(circuit),
-        None => Err(QasmFault::Refused {
-            at: 0,
-            kind: QasmKind::NotBuilt,
-        }),
-    }
-}
-
-// The circuit of a text of the form. `None` tells that it is no such text.
-fn read_form(alloc: Global, text: &[u8]) -> Result<Option<Circuit>, NoMemory>
-    ensures found { IfOk result (λ answer. IfSome answer (IsFirstForm text.now)) }
-    ensures none { IfOk result (λ answer. IfNone answer ((c : CircuitData) → IsFirstForm text.now c → ⊥)) }
-{
-    match read_head(text) {
-        Some(head) => read_lines(alloc, head.register, head.count, head.lines),
-        None => Ok(None),
-    }
-}
-
-#[cfg(test)]
-mod tests {
-    use super::*;
-    use std::process::Abort;
-
-    const HEAD: &str = "OPENQASM 2.0;\ninclude \"qelib1.inc\";\n";
-
-    // The answer to the text of this head and these lines.
-    fn answer(
-        rt: &impl Abort,
-        alloc: Global,
-        head: &str,
-        lines: &str,
-    ) -> Result<Circuit, QasmFault> {
-        let text = format!(in alloc; "{head}{lines}").expect(rt, "memory");
-        assert!(rt; text.len() <= 16777216);
-        read(alloc, text.as_bytes())
-    }
-
-    #[test]
-    fn reads_a_bell_pair(rt: HostRuntime) {
-        let lines = "qreg q[2];\nh q[0];\ncx q[0],q[1];\n";
-        let circuit = answer(&rt, rt.alloc(), HEAD, lines).expect(&rt, "a circuit");
-        assert_eq!(rt; circuit.qubits(), 2);
-        assert_eq!(rt; circuit.bits(), 0);
-        let items = circuit.items();
-        assert_eq!(rt; items.len(), 2);
-        let words = [(b"h".as_slice(), 1), (b"cx".as_slice(), 2)];
-        for (item, (name, qubits)) in items.iter().zip(words) {
-            assert_eq!(rt; item.name().as_slice(), name);
-            assert_eq!(rt; item.qubits().len(), qubits);
-        }
-    }
-
-    #[test]
-    fn refuses_other_texts(rt: HostRuntime) {
-        let texts = [
-            ("", ""),
-            ("", "qreg q[2];\n"),
-            (HEAD, "qreg q[2];\nh q[0];\ncx q[0],q[1];"),
-            (HEAD, "qreg q[2];\ny q[0];\n"),
-            (HEAD, "qreg q[2];\nh q[2];\n"),
-            (HEAD, "qreg q[2];\ncx q[1],q[1];\n"),
-            (HEAD, "qreg q[0];\n"),
-            (HEAD, "qreg q[257];\n"),
-            (HEAD, "qreg q[02];\n"),
-            (HEAD, "qreg if[2];\n"),
-            (HEAD, "qreg q[2];\nh  q[0];\n"),
-            (HEAD, "qreg q[2];\n\nh q[0];\n"),
-        ];
-        for (head, lines) in texts {
-            let fault = answer(&rt, rt.alloc(), head, lines).err();
-            let kind = QasmKind::NotBuilt;
-            assert_eq!(rt; fault, Some(QasmFault::Refused { at: 0, kind }), "{lines}");
-        }
-    }
+    crate::laws::one_circuit();
+    crate::laws::one_refusal();
+    crate::laws::not_both();
+    answer(alloc, text)
 }

@@ -12,9 +12,9 @@ pub data Cause : Type 0 where
   Write : Cause
   TooLarge : (name : List ℕ) (limit : ℕ) → Cause
   Machine : (fault : TextFault) → Cause
-  NotBuilt : Cause
   Circuit : (at : ℕ) (kind : QasmKind) → Cause
   Shortage : (qubits slots : ℕ) → Cause
+  TooLong : (done items ops : ℕ) → Cause
   NoMemory : Cause
 
 -- the cause of a refusal of the code
@@ -24,9 +24,9 @@ cause_of (refusal.Read name) = Read name.now
 cause_of refusal.Write = Write
 cause_of (refusal.TooLarge name limit) = TooLarge name.now limit
 cause_of (refusal.Machine fault) = Machine fault
-cause_of refusal.NotBuilt = NotBuilt
 cause_of (refusal.Circuit at kind) = Circuit at kind
 cause_of (refusal.Shortage qubits slots) = Shortage qubits slots
+cause_of (refusal.TooLong done items ops) = TooLong done items ops
 cause_of refusal.NoMemory = NoMemory
 
 -- the status with which the program ends
@@ -36,7 +36,7 @@ status_of (Read name) = 3
 status_of Write = 4
 status_of (TooLarge name limit) = 5
 status_of (Machine fault) = 6
-status_of NotBuilt = 6
 status_of (Circuit at kind) = 7
 status_of (Shortage qubits slots) = 8
+status_of (TooLong done items ops) = 9
 status_of NoMemory = 12

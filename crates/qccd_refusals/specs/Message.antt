@@ -3,7 +3,7 @@ use Rattle.std.specs.Prelude.{ℕ, List, [], ◌∷◌, codes, decimal}
 use Rattle.std.specs.List.{concat}
 use Rattle.machine_text.specs.FaultText.{text_fault_text}
 use Rattle.qasm_reader.specs.Kind.{kind_text}
-use Rattle.qccd_refusals.specs.Cause.{Cause, Words, Read, Write, TooLarge, Machine, NotBuilt, Circuit, Shortage, NoMemory}
+use Rattle.qccd_refusals.specs.Cause.{Cause, Words, Read, Write, TooLarge, Machine, Circuit, Shortage, TooLong, NoMemory}
 
 -- the forms that the words may have
 abbrev pub usage : List ℕ
@@ -22,9 +22,11 @@ message_of Write = codes "qccd: cannot write\n"
 message_of (TooLarge name limit) =
     concat (codes "qccd: " ∷ name ∷ codes " has more than " ∷ decimal limit ∷ codes " bytes\n" ∷ [])
 message_of (Machine fault) = concat (codes "qccd: machine: " ∷ text_fault_text fault ∷ codes "\n" ∷ [])
-message_of NotBuilt = codes "qccd: machine: not built\n"
 message_of (Circuit at kind) =
     concat (codes "qccd: circuit: byte " ∷ decimal at ∷ codes ": " ∷ kind_text kind ∷ codes "\n" ∷ [])
 message_of (Shortage qubits slots) =
     concat (codes "qccd: " ∷ decimal qubits ∷ codes " qubits, " ∷ decimal slots ∷ codes " slots\n" ∷ [])
+message_of (TooLong done items ops) =
+    concat (codes "qccd: too long: " ∷ decimal done ∷ codes " of " ∷ decimal items ∷ codes " items took "
+    ∷ decimal ops ∷ codes " operations, the limit is 4194304\n" ∷ [])
 message_of NoMemory = codes "qccd: no memory\n"

@@ -31,12 +31,13 @@ pub enum Refusal<'a> {
     TooLarge { name: &'a str, limit: u32 },
     /// The machine's text is refused for this fault.
     Machine { fault: TextFault },
-    /// Programs for such a machine are not built yet.
-    NotBuilt,
     /// The circuit's text is refused for what stands at this byte, counted from 0.
     Circuit { at: u32, kind: QasmKind },
     /// The machine has too few places for the circuit's qubits.
     Shortage { qubits: u32, slots: u32 },
+    /// The program grows past its limit of 4,194,304 operations: after `done` of the circuit's items it has
+    /// so many that the next one might not fit.
+    TooLong { done: u32, items: u32, ops: u32 },
     /// Memory ran out.
     NoMemory,
 }
@@ -51,9 +52,10 @@ impl Refusal<'_> {
             Refusal::Read { .. } => 3,
             Refusal::Write => 4,
             Refusal::TooLarge { .. } => 5,
-            Refusal::Machine { .. } | Refusal::NotBuilt => 6,
+            Refusal::Machine { .. } => 6,
             Refusal::Circuit { .. } => 7,
             Refusal::Shortage { .. } => 8,
+            Refusal::TooLong { .. } => 9,
             Refusal::NoMemory => 12,
         }
     }
@@ -83,7 +85,6 @@ pub fn tell<E: Sink>(err: &mut E, refusal: &Refusal<'_>) -> Result<(), Failed>
             err,
             &[b"qccd: machine: ", fault.text().as_bytes(), b"\n"],
         ),
-        Refusal::NotBuilt => send_all(err, &[b"qccd: machine: not built\n"]),
         Refusal::Circuit { at, kind } => send_all(
             err,
             &[
@@ -102,6 +103,18 @@ pub fn tell<E: Sink>(err: &mut E, refusal: &Refusal<'_>) -> Result<(), Failed>
                 b" qubits, ",
                 number_text(slots.into()).as_bytes(),
                 b" slots\n",
+            ],
+        ),
+        Refusal::TooLong { done, items, ops } => send_all(
+            err,
+            &[
+                b"qccd: too long: ",
+                number_text(done.into()).as_bytes(),
+                b" of ",
+                number_text(items.into()).as_bytes(),
+                b" items took ",
+                number_text(ops.into()).as_bytes(),
+                b" operations, the limit is 4194304\n",
             ],
         ),
         Refusal::NoMemory => send_all(err, &[b"qccd: no memory\n"]),

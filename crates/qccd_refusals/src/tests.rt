@@ -50,7 +50,6 @@ fn tells(rt: HostRuntime) -> Result<(), Fail> {
             6,
             "qccd: machine: segment S2 takes an end that is taken\n",
         ),
-        (Refusal::NotBuilt, 6, "qccd: machine: not built\n"),
         (
             Refusal::Circuit {
                 at: 120,
@@ -66,6 +65,15 @@ fn tells(rt: HostRuntime) -> Result<(), Fail> {
             },
             8,
             "qccd: 3 qubits, 2 slots\n",
+        ),
+        (
+            Refusal::TooLong {
+                done: 4,
+                items: 70,
+                ops: 4194300,
+            },
+            9,
+            "qccd: too long: 4 of 70 items took 4194300 operations, the limit is 4194304\n",
         ),
         (Refusal::NoMemory, 12, "qccd: no memory\n"),
     ];

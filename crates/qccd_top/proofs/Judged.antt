@@ -1,14 +1,13 @@
 -- Words are judged before all else.
 use Rattle.std.proofs.Common.{◌≡◌, ◌↔◌, ℕ, List, ◌⊎◌, inl, inr, Option, None, Result, Err, sym, ◌∙◌, ap, arith}
 use Rattle.qccd_io.specs.Shelf.{Holding}
-use Rattle.qccd_circuit.specs.Circuit.{CircuitData}
-use Rattle.qccd_machine.specs.Machine.{MachineData}
-use Rattle.qccd_words.specs.Words.{AskedMachine, OfPreset, OfFile, Asked, AskedRun, request_of}
+use Rattle.qccd_base.specs.declared.names.Mode.{Mode}
+use Rattle.qccd_words.specs.Words.{AskedMachine, OfPreset, OfFile, Asked, AskedRun, AskedRehearse, request_of}
 use Rattle.qccd_refusals.specs.Cause.{Cause, Words, status_of}
 use Rattle.qccd_top.specs.declared.limits.TheConstants.{CIRCUIT_LIMIT, MACHINE_LIMIT}
-use Rattle.qccd_top.specs.Stage.{Stage, Refuses, ◌>>=◌, Just, Test}
-use Rattle.qccd_top.specs.Stages.{FileIn, MachineOf, MachineIn, Built, CircuitOf, CircuitIn, Fits}
-use Rattle.qccd_top.specs.Means.{CompiledIn, TextOf, TextFor}
+use Rattle.qccd_top.specs.Stage.{Stage, Refuses, ◌>>=◌, Just}
+use Rattle.qccd_top.specs.Stages.{FileIn, MachineOf, MachineIn, CircuitOf, CircuitIn}
+use Rattle.qccd_top.specs.Means.{CompiledIn, RehearsedIn, TextOf, TextFor}
 use Rattle.qccd_top.specs.Call.{Call}
 use Rattle.qccd_top.specs.Done.{IsCauseOf}
 
@@ -28,22 +27,18 @@ takes-machine told (OfFile name) = takes-then (FileIn told name MACHINE_LIMIT) M
 takes-circuit : (told : Option Holding) (name : List ℕ) → Takes (CircuitIn told name)
 takes-circuit told name = takes-then (FileIn told name CIRCUIT_LIMIT) CircuitOf (λ why. why) (λ text why. why)
 
-takes-built : (m : MachineData) → Takes (Built m)
-takes-built m = λ why. let other = why.1 in cc
-
-takes-fits : (c : CircuitData) (m : MachineData) → Takes (Fits c m)
-takes-fits c m = λ why. let other = why.1 in cc
-
-takes-compiled : (told : Option Holding) (machine : AskedMachine) (circuit : List ℕ) → Takes (CompiledIn told machine circuit)
-takes-compiled told machine circuit =
+takes-compiled : (told : Option Holding) (machine : AskedMachine) (circuit : List ℕ) (mode : Mode) → Takes (CompiledIn told machine circuit mode)
+takes-compiled told machine circuit mode =
     takes-then _ _ (takes-machine told machine) (λ m.
-    takes-then _ _ (takes-built m) (λ u.
-    takes-then _ _ (takes-circuit told circuit) (λ c.
-    takes-then _ _ (takes-fits c m) (λ v why. why))))
+    takes-then _ _ (takes-circuit told circuit) (λ c why. why))
+
+takes-rehearsed : (told : Option Holding) (machine : AskedMachine) (number qubits items : ℕ) → Takes (RehearsedIn told machine number qubits items)
+takes-rehearsed told machine number qubits items = takes-then _ _ (takes-machine told machine) (λ m why. why)
 
 -- what words ask for is not refused for the words
 takes-text : (told : Option Holding) (asked : Asked) → Takes (TextOf told asked)
-takes-text told (AskedRun machine circuit workers mode) = takes-then _ _ (takes-compiled told machine circuit) (λ p why. why)
+takes-text told (AskedRun machine circuit workers mode) = takes-then _ _ (takes-compiled told machine circuit mode) (λ p why. why)
+takes-text told (AskedRehearse number qubits items machine workers) = takes-then _ _ (takes-rehearsed told machine number qubits items) (λ p why. why)
 
 no_reading : (told : Option Holding) (words : List (List ℕ)) → TextFor told words (Refuses Words) → request_of words ≡ None
 unfolding ◌>>=◌

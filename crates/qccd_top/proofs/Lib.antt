@@ -1,6 +1,5 @@
 pub mod Chain
 pub mod Single
 pub mod Dues
-pub mod Circuits
 pub mod Judged
 pub mod Headline

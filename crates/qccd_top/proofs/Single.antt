@@ -1,17 +1,23 @@
 -- A stage has one answer, where the shelf tells what it holds.
-use Rattle.std.proofs.Common.{◌≡◌, ◌≢◌, ℕ, ◌<◌, ◌≤◌, ◌⊎◌, inl, inr, List, length, Option, Some, None, refl, sym, ◌∙◌, ap, subst, arith}
+use Rattle.std.proofs.Common.{◌≡◌, ℕ, ◌-◌, ◌<◌, ◌≤◌, ◌⊎◌, inl, inr, List, length, Option, Some, None, refl, sym, ◌∙◌, ap, subst, arith}
+use Rattle.qccd_base.specs.declared.names.Mode.{Mode}
+use Rattle.qccd_base.specs.declared.names.Mode.TheVariants.{IonSwap}
 use Rattle.qccd_io.specs.Shelf.{Holding}
 use Rattle.qccd_circuit.specs.Circuit.{CircuitData}
-use Rattle.qccd_machine.specs.Machine.{MachineData, slots_of}
+use Rattle.qccd_machine.specs.Machine.{MachineData, worst_of}
 use Rattle.qccd_machine.specs.Preset.{preset_of}
-use Rattle.machine_text.proofs.Answered.{one_parts, one_refusal, not_both}
-use Rattle.qasm_reader.proofs.FormLemmas.{one_form}
-use Rattle.qccd_words.specs.Words.{AskedMachine, OfPreset, OfFile, Asked, AskedRun}
-use Rattle.qccd_refusals.specs.Cause.{Cause, Words, Read, TooLarge, Machine, Circuit}
+use Rattle.machine_text.proofs.Answered as machine_texts
+use Rattle.qasm_reader.proofs.Answered.{one_circuit, one_refusal, not_both}
+use Rattle.claim_core.specs.Program.{ProgramData}
+use Rattle.rehearsal.specs.Generated.{generated}
+use Rattle.compiler.specs.Chosen.{chosen_long}
+use Rattle.compiler.proofs.Answering.{one_too_long}
+use Rattle.qccd_words.specs.Words.{AskedMachine, OfPreset, OfFile, Asked, AskedRun, AskedRehearse}
+use Rattle.qccd_refusals.specs.Cause.{Cause, Words, Read, TooLarge, Machine, Circuit, Shortage, TooLong}
 use Rattle.qccd_top.specs.declared.limits.TheConstants.{CIRCUIT_LIMIT, MACHINE_LIMIT}
-use Rattle.qccd_top.specs.Stages.{WordsOf, FileIn, MachineOf, MachineIn, one_trap_of, Built, CircuitOf, CircuitIn, Fits}
-use Rattle.qccd_top.specs.Means.{CompiledIn, TextOf, TextFor}
-use Rattle.qccd_top.specs.Stage.{Answer, Gives, Refuses, Fetches, Stage, ◌>>=◌, ◌>>◌, Just, Test}
+use Rattle.qccd_top.specs.Stages.{WordsOf, FileIn, MachineOf, MachineIn, CircuitOf, CircuitIn, Compiled}
+use Rattle.qccd_top.specs.Means.{CompiledIn, RehearsedIn, TextOf, TextFor}
+use Rattle.qccd_top.specs.Stage.{Answer, Gives, Refuses, Fetches, Stage, ◌>>=◌, Just}
 
 pub record IsSingle {A : Type 0} (stage : Stage A) : Type 0 where
   pub given : (a b : A) → stage (Gives a) → stage (Gives b) → a ≡ b
@@ -45,13 +51,6 @@ single-just a = record {
   given = λ x y held also. held ∙ sym also;
   refused = λ c d why other. absurd why;
   not_both = λ x c held why. why;
-}
-
-single-test : (P Q : Type 0) (why : Cause) → (P → Q → ⊥) → IsSingle (Test P why Q)
-single-test P Q why apart = record {
-  given = λ x y held also. refl;
-  refused = λ c d first second. first.1 ∙ sym second.1;
-  not_both = λ x c held refused. apart refused.0 held;
 }
 
 single-file : (held : Holding) (name : List ℕ) (limit : ℕ) → IsSingle (FileIn (Some held) name limit)
@@ -94,55 +93,78 @@ single-words words = record { given = λ a b is also. let same = sym is ∙ also
 
 single-machine_of : (text : List ℕ) → IsSingle (MachineOf text)
 single-machine_of text = record {
-  given = λ m n is also. one_parts text m n is.description also.description;
+  given = λ m n is also. machine_texts.one_parts text m n is.description also.description;
   refused = refused;
   not_both = apart;
 }
   where
     refused : (c d : Cause) → MachineOf text (Refuses c) → MachineOf text (Refuses d) → c ≡ d
-    refused (Machine f) (Machine g) first second = ap Machine (one_refusal text f g first second)
+    refused (Machine f) (Machine g) first second = ap Machine (machine_texts.one_refusal text f g first second)
     refused (Machine f) d first second = absurd second
     refused c d first second = absurd first
 
     apart : (m : MachineData) (c : Cause) → MachineOf text (Gives m) → MachineOf text (Refuses c) → ⊥
-    apart m (Machine f) first second = not_both text m f first second
+    apart m (Machine f) first second = machine_texts.not_both text m f first second
     apart m c first second = second
 
 single-machine : (held : Holding) (word : AskedMachine) → IsSingle (MachineIn (Some held) word)
 single-machine held (OfPreset which capacity) = single-just (preset_of which capacity)
 single-machine held (OfFile name) = single-then (FileIn (Some held) name MACHINE_LIMIT) MachineOf (single-file held name MACHINE_LIMIT) single-machine_of
 
-single-built : (m : MachineData) → IsSingle (Built m)
-single-built m = single-test (m ≢ one_trap_of m) (m ≡ one_trap_of m) _ (λ other is. other is)
-
 single-circuit_of : (text : List ℕ) → IsSingle (CircuitOf text)
-single-circuit_of text = record { given = one_form text; refused = refused; not_both = apart }
+single-circuit_of text = record { given = λ c d is also. one_circuit text c d is also; refused = refused; not_both = apart }
   where
     refused : (c d : Cause) → CircuitOf text (Refuses c) → CircuitOf text (Refuses d) → c ≡ d
-    refused (Circuit a k) (Circuit b l) first second = let x = first.first in let y = second.first in let z = first.not_built in let w = second.not_built in cc
+    refused (Circuit a k) (Circuit b l) first second = let same = one_refusal text a b k l first second in let at = same.0 in let kind = same.1 in cc
     refused (Circuit a k) d first second = absurd second
     refused c d first second = absurd first
 
     apart : (m : CircuitData) (c : Cause) → CircuitOf text (Gives m) → CircuitOf text (Refuses c) → ⊥
-    apart m (Circuit a k) first second = second.no_circuit m first
+    apart m (Circuit a k) first second = not_both text m a k first second
     apart m c first second = second
 
 single-circuit : (held : Holding) (name : List ℕ) → IsSingle (CircuitIn (Some held) name)
 single-circuit held name = single-then (FileIn (Some held) name CIRCUIT_LIMIT) CircuitOf (single-file held name CIRCUIT_LIMIT) single-circuit_of
 
-single-fits : (c : CircuitData) (m : MachineData) → IsSingle (Fits c m)
-single-fits c m = single-test (slots_of m < c.qubits) (c.qubits ≤ slots_of m) _ (λ more few. omega arith)
+single-program : (c : CircuitData) (m : MachineData) (mode : Mode) → IsSingle (Compiled c m mode)
+single-program c m mode = record { given = λ p q is also. is.is_chosen ∙ sym also.is_chosen; refused = refused; not_both = apart }
+  where
+    refused : (x y : Cause) → Compiled c m mode (Refuses x) → Compiled c m mode (Refuses y) → x ≡ y
+    refused (Shortage q s) (Shortage r t) first second =
+        let qubits : q ≡ r = first.of_circuit ∙ sym second.of_circuit in
+        let slots : s ≡ t = first.of_machine ∙ sym second.of_machine in cc
+    refused (Shortage q s) (TooLong d n k) first second = absurd (omega (arith, first.fewer, second.1))
+    refused (TooLong d n k) (Shortage q s) first second = absurd (omega (arith, second.fewer, first.1))
+    refused (TooLong d n k) (TooLong e o l) (items, fits, first) (also, fit, second) =
+        let same = one_too_long c m mode d e k l first second in
+        let count : n ≡ o = items ∙ sym also in
+        let done = same.0 in
+        let ops = same.1 in cc
+    refused (Shortage q s) y first second = absurd second
+    refused (TooLong d n k) y first second = absurd second
+    refused x y first second = absurd first
 
-single-compiled : (held : Holding) (machine : AskedMachine) (circuit : List ℕ) → IsSingle (CompiledIn (Some held) machine circuit)
-single-compiled held machine circuit =
+    apart : (p : ProgramData) (x : Cause) → Compiled c m mode (Gives p) → Compiled c m mode (Refuses x) → ⊥
+    apart p (Shortage q s) first second = omega (arith, first.fits, second.fewer)
+    apart p (TooLong d n k) first (items, fits, second) =
+        let room : chosen_long c m mode d ≤ 4194304 - worst_of m = first.room d second.before_an_item in
+        let past : 4194304 - worst_of m < k = second.too_many in
+        let is : chosen_long c m mode d ≡ k = second.operations in omega arith
+    apart p x first second = second
+
+single-compiled : (held : Holding) (machine : AskedMachine) (circuit : List ℕ) (mode : Mode) → IsSingle (CompiledIn (Some held) machine circuit mode)
+single-compiled held machine circuit mode =
     single-then _ _ (single-machine held machine) (λ m.
-    single-then _ _ (single-built m) (λ u.
-    single-then _ _ (single-circuit held circuit) (λ c.
-    single-then _ _ (single-fits c m) (λ v. single-just _))))
+    single-then _ _ (single-circuit held circuit) (λ c. single-program c m mode))
+
+single-rehearsed : (held : Holding) (machine : AskedMachine) (number qubits items : ℕ) → IsSingle (RehearsedIn (Some held) machine number qubits items)
+single-rehearsed held machine number qubits items =
+    single-then _ _ (single-machine held machine) (λ m. single-program (generated number qubits items) m IonSwap)
 
 -- a command has one answer
 single-text : (held : Holding) (asked : Asked) → IsSingle (TextOf (Some held) asked)
-single-text held (AskedRun machine circuit workers mode) = single-then _ _ (single-compiled held machine circuit) (λ p. single-just _)
+single-text held (AskedRun machine circuit workers mode) = single-then _ _ (single-compiled held machine circuit mode) (λ p. single-just _)
+single-text held (AskedRehearse number qubits items machine workers) = single-then _ _ (single-rehearsed held machine number qubits items) (λ p. single-just _)
 
 -- so have words
 pub single-written : (held : Holding) (words : List (List ℕ)) → IsSingle (TextFor (Some held) words)

@@ -16,27 +16,18 @@ pub data Answer (A : Type 0) : Type 0 where
 abbrev pub Stage : Type 0 → Type 1
 Stage A = Answer A → Type 0
 
-infixl 10 ◌>>=◌ ◌>>◌
+infixl 10 ◌>>=◌
 -- A stage and then, with what it gives, another: refused for the first cause in this order.
 unfoldable pub ◌>>=◌ : {A B : Type 0} → Stage A → (A → Stage B) → Stage B
 ◌>>=◌ {A} first next (Gives value) = (a : A) × first (Gives a) × next a (Gives value)
 ◌>>=◌ {A} first next (Refuses cause) = first (Refuses cause) ⊎ ((a : A) × first (Gives a) × next a (Refuses cause))
 ◌>>=◌ {A} first next (Fetches name) = first (Fetches name) ⊎ ((a : A) × first (Gives a) × next a (Fetches name))
 
-abbrev pub ◌>>◌ : {A B : Type 0} → Stage A → Stage B → Stage B
-first >> next = first >>= (λ _. next)
-
 -- just this value
 abbrev pub Just : {A : Type 0} → A → Stage A
 Just a (Gives value) = value ≡ a
 Just a (Refuses cause) = ⊥
 Just a (Fetches name) = ⊥
-
--- refused for this cause where P holds, and passed where Q does, which rule each other out
-abbrev pub Test : Type 0 → Cause → Type 0 → Stage (Unit {0})
-Test P why Q (Gives value) = Q
-Test P why Q (Refuses cause) = P × (cause ≡ why)
-Test P why Q (Fetches name) = ⊥
 
 -- What a refusal rests on: the stage refuses for it, or fetches the file while the shelf's count of faults
 -- rises, or memory runs out. No stage writes.

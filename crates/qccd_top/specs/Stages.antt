@@ -1,16 +1,20 @@
 -- The stages of which commands are made.
-use Rattle.std.specs.Prelude.{◌≡◌, ◌≢◌, ℕ, ◌<◌, ◌≤◌, List, length, Option, Some, None, get_or}
+use Rattle.std.specs.Prelude.{◌≡◌, ℕ, ◌≤◌, List, length, Option, Some, None}
+use Rattle.qccd_base.specs.declared.names.Mode.{Mode}
 use Rattle.qccd_io.specs.Shelf.{Holding, Lacks}
 use Rattle.qccd_io.specs.Fetch.{HoldsFile, HoldsMoreThan}
 use Rattle.qccd_circuit.specs.Circuit.{CircuitData}
 use Rattle.qccd_machine.specs.Machine.{MachineData, slots_of}
-use Rattle.qccd_machine.specs.Preset.{preset_of, single}
+use Rattle.qccd_machine.specs.Preset.{preset_of}
 use Rattle.machine_text.specs.Machine.{IsMachineOf, IsRefusalOf}
-use Rattle.qasm_reader.specs.Reading.{IsCircuitOf, IsRefused}
+use Rattle.qasm_reader.specs.Reading.{IsCircuitOf, IsRefusedAt}
+use Rattle.claim_core.specs.Program.{ProgramData}
+use Rattle.compiler.specs.Chosen.{IsTooLong}
+use Rattle.compiler.specs.Compiled.{IsProgramFor, IsShortage}
 use Rattle.qccd_words.specs.Words.{AskedMachine, OfPreset, OfFile, Asked, request_of}
-use Rattle.qccd_refusals.specs.Cause.{Cause, Words, Read, TooLarge, Machine, NotBuilt, Circuit, Shortage}
+use Rattle.qccd_refusals.specs.Cause.{Cause, Words, Read, TooLarge, Machine, Circuit, Shortage, TooLong}
 use Rattle.qccd_top.specs.declared.limits.TheConstants.{CIRCUIT_LIMIT, MACHINE_LIMIT}
-use Rattle.qccd_top.specs.Stage.{Answer, Gives, Refuses, Fetches, Stage, ◌>>=◌, Just, Test}
+use Rattle.qccd_top.specs.Stage.{Answer, Gives, Refuses, Fetches, Stage, ◌>>=◌, Just}
 
 -- what the words ask for
 abbrev pub WordsOf : List (List ℕ) → Stage Asked
@@ -39,18 +43,10 @@ abbrev pub MachineIn : Option Holding → AskedMachine → Stage MachineData
 MachineIn told (OfPreset which capacity) = Just (preset_of which capacity)
 MachineIn told (OfFile name) = FileIn told name MACHINE_LIMIT >>= MachineOf
 
--- the machine of one trap with the capacity of this one's first
-abbrev pub one_trap_of : MachineData → MachineData
-one_trap_of m = single (get_or m.capacities 0 0)
-
--- programs are built for the machine: for now, it is one trap alone, with the usual times
-abbrev pub Built : MachineData → Stage (Unit {0})
-Built m = Test (m ≢ one_trap_of m) NotBuilt (m ≡ one_trap_of m)
-
 -- the circuit of a text
 abbrev pub CircuitOf : List ℕ → Stage CircuitData
 CircuitOf text (Gives c) = IsCircuitOf text c
-CircuitOf text (Refuses (Circuit at kind)) = IsRefused text at kind
+CircuitOf text (Refuses (Circuit at kind)) = IsRefusedAt text at kind
 CircuitOf text (Refuses cause) = ⊥
 CircuitOf text (Fetches name) = ⊥
 
@@ -58,6 +54,11 @@ CircuitOf text (Fetches name) = ⊥
 abbrev pub CircuitIn : Option Holding → List ℕ → Stage CircuitData
 CircuitIn told name = FileIn told name CIRCUIT_LIMIT >>= CircuitOf
 
--- the machine has places for the circuit's qubits
-abbrev pub Fits : CircuitData → MachineData → Stage (Unit {0})
-Fits c m = Test (slots_of m < c.qubits) (Shortage c.qubits (slots_of m)) (c.qubits ≤ slots_of m)
+-- the program of the circuit on the machine: refused where the machine takes fewer qubits, and where the program
+-- grows past its limit
+abbrev pub Compiled : CircuitData → MachineData → Mode → Stage ProgramData
+Compiled c m mode (Gives p) = IsProgramFor c m mode p
+Compiled c m mode (Refuses (Shortage qubits slots)) = IsShortage c m qubits slots
+Compiled c m mode (Refuses (TooLong done items ops)) = (items ≡ length c.items) × (c.qubits ≤ slots_of m) × IsTooLong c m mode done ops
+Compiled c m mode (Refuses cause) = ⊥
+Compiled c m mode (Fetches name) = ⊥

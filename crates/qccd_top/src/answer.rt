@@ -2,13 +2,13 @@
 
 ghost use Rattle.std.specs.Prelude.{◌≡◌, None, IsErrAnd, map, string_bytes};
 ghost use Rattle.qccd_io.specs.Shelf.{NoneIsOut};
-ghost use Rattle.qccd_words.specs.Words.{AskedRun, asked, machine_asked, request_of};
+ghost use Rattle.qccd_words.specs.Words.{AskedRun, AskedRehearse, asked, machine_asked, request_of, AreFew, AreFewAsked, HasCapacity, HasCapacityAsked};
 ghost use Rattle.qccd_refusals.specs.Cause.{Words, cause_of};
-ghost use Rattle.qccd_top.specs.Means.{TextFor};
+ghost use Rattle.qccd_top.specs.Means.{TextFor, TextOf};
 ghost use Rattle.qccd_top.specs.Done.{Does};
 
-use crate::output::write_report;
-use crate::stages::compiled_in;
+use crate::output::{write_report, write_summary};
+use crate::stages::{compiled_in, rehearsed_in};
 use qccd_base::Mode;
 use qccd_io::{Shelf, Sink};
 use qccd_refusals::Refusal;
@@ -29,26 +29,21 @@ pub fn answer<'a, F: Shelf, O: Sink>(
 {
     match request(words) {
         None => Err(Refusal::Words),
-        Some(command) => {
-            let run = run_of(command);
-            let program = compiled_in(alloc, shelf, run.machine, run.circuit)?;
-            write_report(alloc, &program, out)
-        }
+        Some(command) => obey(alloc, command, shelf, out),
     }
 }
 
-/// A run that was asked for.
-#[derive(Clone, Copy)]
-struct Run<'a> {
-    machine: MachineWord<'a>,
-    circuit: &'a str,
-    workers: u8,
-    mode: Mode,
-}
-
-/// The run that the command asks for, which is all that a command can ask for now.
-fn run_of(command: Command<'_>) -> Run<'_>
-    ensures { asked command.entry ≡ AskedRun (machine_asked result.machine) result.circuit.now result.workers result.mode }
+/// Does what the command asks for.
+fn obey<'a, F: Shelf, O: Sink>(
+    alloc: Global,
+    command: Command<'a>,
+    shelf: &mut F,
+    out: &mut O,
+) -> Result<(), Refusal<'a>>
+    requires inside { NoneIsOut (F.told shelf.old) }
+    requires capacity { HasCapacityAsked command }
+    requires few { AreFewAsked command }
+    ensures { Does F.told F.faults O.taken O.faults shelf.old shelf.new out.old out.new (λ told. TextOf told (asked command.entry)) result }
 {
     match command {
         Command::Run {
@@ -56,11 +51,51 @@ fn run_of(command: Command<'_>) -> Run<'_>
             circuit,
             workers,
             mode,
-        } => Run {
+        } => run(alloc, machine, circuit, workers, mode, shelf, out),
+        Command::Rehearse {
+            number,
+            qubits,
+            items,
             machine,
-            circuit,
             workers,
-            mode,
-        },
+        } => rehearse(alloc, number, qubits, items, machine, workers, shelf, out),
     }
+}
+
+/// Compiles the circuit of the file of this name and writes the report of its program.
+fn run<'a, F: Shelf, O: Sink>(
+    alloc: Global,
+    machine: MachineWord<'a>,
+    circuit: &'a str,
+    workers: u8,
+    mode: Mode,
+    shelf: &mut F,
+    out: &mut O,
+) -> Result<(), Refusal<'a>>
+    requires inside { NoneIsOut (F.told shelf.old) }
+    requires capacity { HasCapacity (machine_asked machine) }
+    ensures { Does F.told F.faults O.taken O.faults shelf.old shelf.new out.old out.new (λ told. TextOf told (AskedRun (machine_asked machine.entry) circuit.now workers mode)) result }
+{
+    let program = compiled_in(alloc, shelf, machine, circuit, mode)?;
+    write_report(alloc, &program, out)
+}
+
+/// Compiles the circuit that is generated from the number and writes the summary of its program.
+fn rehearse<'a, F: Shelf, O: Sink>(
+    alloc: Global,
+    number: u32,
+    qubits: u16,
+    items: u32,
+    machine: MachineWord<'a>,
+    workers: u8,
+    shelf: &mut F,
+    out: &mut O,
+) -> Result<(), Refusal<'a>>
+    requires inside { NoneIsOut (F.told shelf.old) }
+    requires capacity { HasCapacity (machine_asked machine) }
+    requires few { AreFew number qubits items }
+    ensures { Does F.told F.faults O.taken O.faults shelf.old shelf.new out.old out.new (λ told. TextOf told (AskedRehearse number qubits items (machine_asked machine.entry) workers)) result }
+{
+    let program = rehearsed_in(alloc, shelf, machine, number, qubits, items)?;
+    write_summary(alloc, &program, number, items, out)
 }

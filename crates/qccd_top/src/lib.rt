@@ -8,7 +8,6 @@ mod limits;
 #[cfg(test)]
 mod machine_tests;
 mod output;
-mod program;
 mod stages;
 #[cfg(test)]
 mod tests;

@@ -5,7 +5,7 @@ ghost use Rattle.qccd_io.specs.Stock.{holding_of};
 ghost use Rattle.qccd_io.specs.Shelf.{NoneIsOut};
 
 use crate::run;
-use crate::tests::{BELL, BELL_REPORT, listed};
+use crate::tests::{BELL, listed};
 use qccd_io::{MemShelf, MemSink, NoPost};
 use std::alloc::{AllocError, Global};
 use std::process::Abort;
@@ -13,11 +13,6 @@ use std::test::Fail;
 use std::thread::Threads;
 
 const ONE_TRAP: &str = "[[trap]]\ncapacity = 4\n";
-
-const TWO_TRAPS: &str = "[[trap]]\ncapacity = 4\n[[trap]]\ncapacity = 4\n\
-                         [[segment]]\na = \"T0.right\"\nb = \"T1.left\"\n";
-
-const NOT_BUILT: &str = "qccd: machine: not built\n";
 
 /// What a command left.
 #[derive(Drop)]
@@ -70,43 +65,6 @@ fn answer<R: Abort + AllocGlobal + Threads + Sync>(
         out: Vec::from_slice(alloc, out.bytes())?,
         err: Vec::from_slice(alloc, err.bytes())?,
     })
-}
-
-#[test]
-fn looks_at_the_machine_first(rt: HostRuntime) -> Result<(), Fail> {
-    let wide = "[[trap]]\ncapacity = 33\n";
-    let wide_told = "qccd: machine: trap T0 has a capacity outside 2 to 32\n";
-    let not_toml = "qccd: machine: not TOML\n";
-    let unknown = "[[trap]]\ncapacity = 4\nions = 2\n";
-    let unknown_told = "qccd: machine: unknown field in trap 0\n";
-    let timed = "[[trap]]\ncapacity = 4\n[time]\nrot = 7\n";
-    let table = [
-        ("run m a", ONE_TRAP, 0, ""),
-        ("run m a", wide, 6, wide_told),
-        ("run m c", wide, 6, wide_told),
-        ("run m a", unknown, 6, unknown_told),
-        ("run m a", "", 6, "qccd: machine: trap is missing\n"),
-        ("run m a", "[trap", 6, not_toml),
-        ("run m a", TWO_TRAPS, 6, NOT_BUILT),
-        ("run m c", TWO_TRAPS, 6, NOT_BUILT),
-        ("run m a", timed, 6, NOT_BUILT),
-        ("run @L6 a", ONE_TRAP, 6, NOT_BUILT),
-        ("run @G2x3:8 c", ONE_TRAP, 6, NOT_BUILT),
-        ("run m c", ONE_TRAP, 3, "qccd: cannot read c\n"),
-        ("run n a", ONE_TRAP, 3, "qccd: cannot read n\n"),
-        ("run n c", ONE_TRAP, 3, "qccd: cannot read n\n"),
-        // One file may be named twice.
-        ("run a a", ONE_TRAP, 6, not_toml),
-        ("run m m", ONE_TRAP, 7, "qccd: circuit: byte 0: not built\n"),
-    ];
-    for (line, machine, status, message) in table {
-        let told = answer(&rt, line, machine.as_bytes(), BELL.as_bytes(), None)?;
-        let report = if status == 0 { BELL_REPORT } else { "" };
-        assert_eq!(rt; told.status, status, "{line}");
-        assert_eq!(rt; told.err.as_slice(), message.as_bytes(), "{line}");
-        assert_eq!(rt; told.out.as_slice(), report.as_bytes(), "{line}");
-    }
-    Ok(())
 }
 
 // Each file is lent, read, and read to its end: three calls for the machine's and three for the

@@ -1,20 +1,18 @@
 //! What a command writes at its end, gathered in large pieces.
 
-ghost use Rattle.std.specs.Prelude.{◌≡◌, ◌≤◌, get_or};
-ghost use Rattle.qasm_reader.specs.Reading.{IsPlain};
-ghost use Rattle.one_trap.specs.Program.{in_one_trap};
+ghost use Rattle.claim_core.specs.AllCells.{AtEnd};
 ghost use Rattle.tracer.specs.Report.{report_text};
-ghost use Rattle.qccd_top.specs.Stages.{one_trap_of};
+ghost use Rattle.tracer.specs.Summary.{summary_text};
 ghost use Rattle.qccd_top.specs.Done.{Writes};
 
-use crate::program::Program;
-use qccd_circuit::Circuit;
+use claim_core::{Program, run_in_order};
+use op_cells::Cells;
 use qccd_io::{Buffer, Buffered, Failed, Sink};
-use qccd_machine::Machine;
 use qccd_refusals::Refusal;
 use std::alloc::Global;
+use tracer::ReportFault;
 
-/// Writes the report of the program.
+/// Runs the program, and writes its report.
 pub fn write_report<'a, O: Sink>(
     alloc: Global,
     program: &Program,
@@ -22,28 +20,59 @@ pub fn write_report<'a, O: Sink>(
 ) -> Result<(), Refusal<'a>>
     ensures { Writes O.taken O.faults out.old out.new (report_text program.now) result }
 {
-    send_report(alloc, &program.circuit, &program.machine, out)
+    let Ok(mut cells) = program.first_cells(alloc) else {
+        return Err(Refusal::NoMemory);
+    };
+    run_in_order(program, &mut cells);
+    send_report(alloc, program, &cells, out)
 }
 
-/// Writes the report of the circuit's program on the machine.
+/// Runs the program of a rehearsal, and writes its summary.
+#[tactic(auto, using(qccd_io::proofs::Appended::buffers))]
+pub fn write_summary<'a, O: Sink>(
+    alloc: Global,
+    program: &Program,
+    number: u32,
+    items: u32,
+    out: &mut O,
+) -> Result<(), Refusal<'a>>
+    ensures { Writes O.taken O.faults out.old out.new (summary_text program.now number items) result }
+{
+    let Ok(mut cells) = program.first_cells(alloc) else {
+        return Err(Refusal::NoMemory);
+    };
+    run_in_order(program, &mut cells);
+    let Ok(mut buffer) = Buffer::of(alloc) else {
+        return Err(Refusal::NoMemory);
+    };
+    let mut buffered = Buffered::of(&mut buffer, out);
+    match tracer::write_summary(program, &cells, number, items, &mut buffered) {
+        Err(Failed) => Err(Refusal::Write),
+        Ok(()) => match buffered.finish() {
+            Err(Failed) => Err(Refusal::Write),
+            Ok(()) => Ok(()),
+        },
+    }
+}
+
+/// Writes the report of a program from its cells at the end.
 #[tactic(auto, using(qccd_io::proofs::Appended::buffers))]
 fn send_report<'a, O: Sink>(
     alloc: Global,
-    circuit: &Circuit,
-    machine: &Machine,
+    program: &Program,
+    cells: &Cells,
     out: &mut O,
 ) -> Result<(), Refusal<'a>>
-    requires plain { IsPlain circuit.now }
-    requires one_trap { machine.now ≡ one_trap_of machine.now }
-    requires fits { circuit.now.qubits ≤ get_or machine.now.capacities 0 0 }
-    ensures { Writes O.taken O.faults out.old out.new (report_text (in_one_trap circuit.now machine.now)) result }
+    requires { AtEnd program.now cells.now }
+    ensures { Writes O.taken O.faults out.old out.new (report_text program.now) result }
 {
     let Ok(mut buffer) = Buffer::of(alloc) else {
         return Err(Refusal::NoMemory);
     };
     let mut buffered = Buffered::of(&mut buffer, out);
-    match one_trap::write_report(&mut buffered, circuit, machine) {
-        Err(Failed) => Err(Refusal::Write),
+    match tracer::write_report(alloc, program, cells, &mut buffered) {
+        Err(ReportFault::Write) => Err(Refusal::Write),
+        Err(ReportFault::NoMemory) => Err(Refusal::NoMemory),
         Ok(()) => match buffered.finish() {
             Err(Failed) => Err(Refusal::Write),
             Ok(()) => Ok(()),

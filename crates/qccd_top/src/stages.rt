@@ -1,24 +1,27 @@
 //! The stages of which commands are made.
 
-ghost use Rattle.std.specs.Prelude.{◌≡◌, ◌≤◌, length, IfOk};
+ghost use Rattle.std.specs.Prelude.{◌≤◌, length};
+ghost use Rattle.qccd_base.specs.declared.names.Mode.TheVariants.{IonSwap};
 ghost use Rattle.qccd_io.specs.Shelf.{NoneIsOut};
 ghost use Rattle.qccd_machine.specs.Preset.{preset_of};
-ghost use Rattle.qasm_reader.specs.Reading.{IsPlain};
-ghost use Rattle.qccd_words.specs.Words.{machine_asked, HasCapacity};
+ghost use Rattle.rehearsal.specs.Generated.{generated};
+ghost use Rattle.qccd_words.specs.Words.{machine_asked, AreFew, HasCapacity};
 ghost use Rattle.qccd_top.specs.Stage.{IsAnswer, Visits, Just, bytes_of};
-ghost use Rattle.qccd_top.specs.Stages.{FileIn, MachineOf, MachineIn, Built, CircuitOf, CircuitIn, Fits};
-ghost use Rattle.qccd_top.specs.Means.{CompiledIn};
+ghost use Rattle.qccd_top.specs.Stages.{FileIn, MachineOf, MachineIn, CircuitOf, CircuitIn, Compiled};
+ghost use Rattle.qccd_top.specs.Means.{CompiledIn, RehearsedIn};
 
 use crate::limits::{CIRCUIT_LIMIT, MACHINE_LIMIT};
-use crate::program::Program;
+use claim_core::Program;
+use compiler::{CompileFault, compile};
 use machine_text::{TextFault, read_machine};
 use qasm_reader::{QasmFault, read};
-use qccd_base::Times;
+use qccd_base::Mode;
 use qccd_circuit::Circuit;
 use qccd_io::{FetchFault, Shelf, fetch_all};
 use qccd_machine::{Machine, MachineFault, Preset, preset_machine};
 use qccd_refusals::Refusal;
 use qccd_words::MachineWord;
+use rehearsal::rehearsal;
 use std::alloc::Global;
 
 /// The bytes of the file of this name, of which there are at most `limit`.
@@ -81,26 +84,10 @@ pub fn machine_in<'a, F: Shelf>(
     }
 }
 
-/// Whether programs are built for the machine.
-fn built<'a>(machine: &Machine) -> Result<(), Refusal<'a>>
-    ensures { IsAnswer (Built machine.now) result }
-{
-    if machine.traps() == 1
-        && machine.segments() == 0
-        && machine.junctions() == 0
-        && *machine.times() == Times::usual()
-    {
-        Ok(())
-    } else {
-        Err(Refusal::NotBuilt)
-    }
-}
-
 /// The circuit of the text.
 fn circuit_of<'a>(alloc: Global, text: &[u8]) -> Result<Circuit, Refusal<'a>>
     requires { length text.now ≤ 16777216 }
-    ensures answer { IsAnswer (CircuitOf text.now) result }
-    ensures plain { IfOk result IsPlain }
+    ensures { IsAnswer (CircuitOf text.now) result }
 {
     match read(alloc, text) {
         Ok(circuit) => Ok(circuit),
@@ -116,23 +103,66 @@ pub fn circuit_in<'a, F: Shelf>(
     name: &'a str,
 ) -> Result<Circuit, Refusal<'a>>
     requires { NoneIsOut (F.told shelf.old) }
-    ensures visits { Visits F.told F.faults shelf.old shelf.new (λ told. CircuitIn told name.now) result }
-    ensures plain { IfOk result IsPlain }
+    ensures { Visits F.told F.faults shelf.old shelf.new (λ told. CircuitIn told name.now) result }
 {
     let text = file_in(alloc, shelf, name, CIRCUIT_LIMIT)?;
     circuit_of(alloc, text.as_slice())
 }
 
-/// Whether the machine has places for the circuit's qubits.
-fn fits<'a>(circuit: &Circuit, machine: &Machine) -> Result<(), Refusal<'a>>
-    ensures { IsAnswer (Fits circuit.now machine.now) result }
+/// The program of the circuit on the machine.
+fn compiled<'a>(
+    alloc: Global,
+    circuit: &Circuit,
+    machine: Machine,
+    mode: Mode,
+) -> Result<Program, Refusal<'a>>
+    ensures { IsAnswer (Compiled circuit.now machine mode) result }
 {
-    let qubits = u32::from(circuit.qubits());
-    let slots = machine.slots();
-    if qubits > slots {
-        return Err(Refusal::Shortage { qubits, slots });
+    match compile(alloc, circuit, machine, mode) {
+        Ok(program) => Ok(program),
+        Err(CompileFault::Shortage { qubits, slots }) => Err(Refusal::Shortage { qubits, slots }),
+        Err(CompileFault::TooLong { done, ops }) => Err(Refusal::TooLong {
+            done,
+            items: circuit.items().len() as u32,
+            ops,
+        }),
+        Err(CompileFault::NoMemory) => Err(Refusal::NoMemory),
     }
-    Ok(())
+}
+
+/// The program of a circuit that is generated, on the machine.
+fn rehearsed<'a>(
+    alloc: Global,
+    number: u32,
+    qubits: u16,
+    items: u32,
+    machine: Machine,
+) -> Result<Program, Refusal<'a>>
+    requires { AreFew number qubits items }
+    ensures { IsAnswer (Compiled (generated number qubits items) machine IonSwap) result }
+{
+    match rehearsal(alloc, number, qubits, items) {
+        Ok(circuit) => compiled(alloc, &circuit, machine, Mode::IonSwap),
+        Err(_) => Err(Refusal::NoMemory),
+    }
+}
+
+/// The program of a circuit that is generated, for the machine that the word names.
+pub fn rehearsed_in<'a, F: Shelf>(
+    alloc: Global,
+    shelf: &mut F,
+    asked: MachineWord<'a>,
+    number: u32,
+    qubits: u16,
+    items: u32,
+) -> Result<Program, Refusal<'a>>
+    requires inside { NoneIsOut (F.told shelf.old) }
+    requires capacity { HasCapacity (machine_asked asked) }
+    requires few { AreFew number qubits items }
+    ensures { Visits F.told F.faults shelf.old shelf.new (λ told. RehearsedIn told (machine_asked asked.entry) number qubits items) result }
+{
+    let machine = machine_in(alloc, shelf, asked)?;
+    rehearsed(alloc, number, qubits, items, machine)
 }
 
 /// The program of the circuit in the file of this name, for the machine that the word names.
@@ -141,14 +171,13 @@ pub fn compiled_in<'a, F: Shelf>(
     shelf: &mut F,
     word: MachineWord<'a>,
     name: &'a str,
+    mode: Mode,
 ) -> Result<Program, Refusal<'a>>
     requires inside { NoneIsOut (F.told shelf.old) }
     requires capacity { HasCapacity (machine_asked word) }
-    ensures { Visits F.told F.faults shelf.old shelf.new (λ told. CompiledIn told (machine_asked word.entry) name.now) result }
+    ensures { Visits F.told F.faults shelf.old shelf.new (λ told. CompiledIn told (machine_asked word.entry) name.now mode) result }
 {
     let machine = machine_in(alloc, shelf, word)?;
-    built(&machine)?;
     let circuit = circuit_in(alloc, shelf, name)?;
-    fits(&circuit, &machine)?;
-    Ok(Program::of(circuit, machine))
+    compiled(alloc, &circuit, machine, mode)
 }

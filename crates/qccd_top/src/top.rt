@@ -6,7 +6,7 @@ ghost use Rattle.qccd_io.specs.Shelf.{Holding, NoneIsOut};
 ghost use Rattle.qccd_words.specs.Words.{request_of};
 ghost use Rattle.qccd_top.specs.Call.{call_of, output};
 ghost use Rattle.qccd_top.specs.Done.{IsDone, IsAnswered, IsDue, IsDueOrFault};
-ghost use Rattle.qccd_top.specs.Headline.{IsReported, IsCutReport};
+ghost use Rattle.qccd_top.specs.Headline.{AsksRun, AsksRehearsal, IsReported, IsCutReport, IsSummarized};
 
 use crate::answer::answer;
 use qccd_io::{Post, Shelf, Sink};
@@ -22,12 +22,13 @@ pub struct Status(pub u8);
 /// Does what the words ask for, and says with which status the program ends. The words are those
 /// after the program's own name.
 ///
-/// With status 0 `out` took the report. With 4 a write failed, and `out` took a prefix of the report;
-/// with any other status it took nothing. `err` is told why: 2 the words are of no form that is known,
-/// 3 a file could not be read, 5 it has too many bytes, 6 the machine's file is refused, or no programs
-/// are built for the machine yet, 7 the circuit's file is refused, 8 the machine takes fewer qubits, 12
-/// out of memory. They are looked for in this order: words; the machine's file and the machine; the
-/// circuit's file and the circuit; its qubits; the writing. A fault of `err` changes no status.
+/// With status 0 `out` took the report, or the summary of a rehearsal. With 4 a write failed, and `out`
+/// took a prefix of it; with any other status it took nothing. `err` is told why: 2 the words are of no
+/// form that is known, 3 a file could not be read, 5 it has too many bytes, 6 the machine's file is
+/// refused, 7 the circuit's file is refused, 8 the machine takes fewer qubits, 9 the program grows past
+/// its limit, 12 out of memory. They are looked for in this order: words; the machine's file and the
+/// machine; the circuit's file and the circuit; its qubits; the program's length; the writing. A fault
+/// of `err` changes no status.
 pub fn run<R: Threads + Sync, F: Shelf, O: Sink, E: Sink, P: Post>(
     _rt: &R,
     alloc: Global,
@@ -38,12 +39,15 @@ pub fn run<R: Threads + Sync, F: Shelf, O: Sink, E: Sink, P: Post>(
     _post: &P,
 ) -> Status
     requires { NoneIsOut (F.told shelf.old) }
-    // With status 0 what was written is the report of the one program meant, which implements the
-    // circuit, keeps every bound and meets each gate's operands; with status 4 it is a prefix of it.
+    // For a run, what was written with status 0 is the report of the one program meant, which implements
+    // the circuit, keeps every bound and meets each gate's operands; with status 4 it is a prefix of it.
     ensures headline { let call = call_of F.told F.faults words.now shelf.old shelf.new (output O.taken O.faults out.old out.new) in
-        result.0 ≡ 0 → IsReported call }
+        AsksRun call.words → result.0 ≡ 0 → IsReported call }
     ensures cut { let call = call_of F.told F.faults words.now shelf.old shelf.new (output O.taken O.faults out.old out.new) in
-        result.0 ≡ 4 → IsCutReport call }
+        AsksRun call.words → result.0 ≡ 4 → IsCutReport call }
+    // For a rehearsal it is the summary of such a program for the circuit that is generated.
+    ensures rehearsed { let call = call_of F.told F.faults words.now shelf.old shelf.new (output O.taken O.faults out.old out.new) in
+        (asks : AsksRehearsal call.words) → result.0 ≡ 0 → IsSummarized call asks }
     // With status 0 the text that the words ask for was written, and nothing was told.
     ensures done { let call = call_of F.told F.faults words.now shelf.old shelf.new (output O.taken O.faults out.old out.new) in
         result.0 ≡ 0 → IsDone call }

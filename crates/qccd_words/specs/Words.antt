@@ -1,9 +1,10 @@
 -- What the words of the command line ask for.
-use Rattle.std.specs.Prelude.{ℕ, ◌≤◌, Bool, false, ◌==◌, List, [], ◌∷◌, ◌++◌, Option, None, Some, option_map, find, codes, decimal, if◌then◌else◌}
+use Rattle.std.specs.Prelude.{ℕ, ◌≤◌, Bool, false, ◌&&◌, ◌==◌, nat_le, List, [], ◌∷◌, ◌++◌, Option, None, Some, option_map, find, codes, decimal, if◌then◌else◌}
 use Rattle.std.specs.List.{range_with_len}
 use Rattle.std.specs.Str.{bytes_eq}
+use Rattle.std.specs.Str.Parse.{digits_value}
 use Rattle.qccd_base.specs.declared.names.Mode.{Mode}
-use Rattle.qccd_base.specs.declared.names.Mode.TheVariants.{IonSwap}
+use Rattle.qccd_base.specs.declared.names.Mode.TheVariants.{IonSwap, GateSwap}
 use Rattle.qccd_machine.specs.declared.place.Preset.{Preset}
 use Rattle.qccd_machine.specs.declared.place.Preset.TheVariants.{L6, G2x3, Single}
 use Rattle.qccd_words.specs.declared.words.MachineWord.{MachineWord}
@@ -16,9 +17,10 @@ pub data AskedMachine : Type 0 where
   OfPreset : (preset : Preset) (capacity : ℕ) → AskedMachine
   OfFile : (name : List ℕ) → AskedMachine
 
--- a run on a machine of the circuit in a file
+-- a run on a machine of the circuit in a file, or of the circuit that is made from a number
 pub data Asked : Type 0 where
   AskedRun : (machine : AskedMachine) (circuit : List ℕ) (workers : ℕ) (mode : Mode) → Asked
+  AskedRehearse : (number qubits items : ℕ) (machine : AskedMachine) (workers : ℕ) → Asked
 
 -- the capacities that a word may give, from 2 to 32
 unfoldable pub capacities : List ℕ
@@ -52,12 +54,57 @@ begins_with_at (b ∷ bs) = b == 64
 abbrev pub machine_of : List ℕ → Option AskedMachine
 machine_of word = if begins_with_at word then preset_named word else Some (OfFile word)
 
--- what the words ask for
-abbrev pub request_of : List (List ℕ) → Option Asked
-request_of (command ∷ machine ∷ circuit ∷ []) =
-    if bytes_eq command (codes "run") then option_map (λ m. AskedRun m circuit 4 IonSwap) (machine_of machine)
+-- how two ions change places: by an exchange of neighbours, or by a gate on the qubits that they carry
+abbrev pub mode_named : List ℕ → Option Mode
+mode_named word =
+    if bytes_eq word (codes "ion") then Some IonSwap
+    else if bytes_eq word (codes "gate") then Some GateSwap
     else None
-request_of _ = None
+
+-- what the words after the circuit's name ask for; where there are none, neighbours are exchanged
+abbrev pub mode_of : List (List ℕ) → Option Mode
+mode_of [] = Some IonSwap
+mode_of (option ∷ value ∷ []) = if bytes_eq option (codes "--swap") then mode_named value else None
+mode_of _ = None
+
+-- the run of this circuit, where a machine and a mode are asked for
+abbrev pub run_asked : List ℕ → Option AskedMachine → Option Mode → Option Asked
+run_asked circuit (Some machine) (Some mode) = Some (AskedRun machine circuit 4 mode)
+run_asked circuit machine None = None
+run_asked circuit None mode = None
+
+-- what the words after `run` ask for
+abbrev pub run_of : List (List ℕ) → Option Asked
+run_of (machine ∷ circuit ∷ options) = run_asked circuit (machine_of machine) (mode_of options)
+run_of _ = None
+
+-- the number from low to high whose text the word is, with no leading zero and no sign
+abbrev pub number_named : (low high : ℕ) → List ℕ → Option ℕ
+number_named low high word =
+    let number = digits_value 10 word in
+    if bytes_eq word (decimal number) && (nat_le low number && nat_le number high) then Some number else None
+
+-- the run of the circuit that is made from a number, where all of its parts are asked for
+abbrev pub rehearse_asked : (number qubits items : Option ℕ) → Option AskedMachine → Option Asked
+rehearse_asked (Some number) (Some qubits) (Some items) (Some machine) = Some (AskedRehearse number qubits items machine 4)
+rehearse_asked (Some number) (Some qubits) (Some items) None = None
+rehearse_asked (Some number) (Some qubits) None machine = None
+rehearse_asked (Some number) None items machine = None
+rehearse_asked None qubits items machine = None
+
+-- what the words after `rehearse` ask for
+abbrev pub rehearse_of : List (List ℕ) → Option Asked
+rehearse_of (number ∷ qubits ∷ items ∷ machine ∷ []) =
+    rehearse_asked (number_named 0 2147483647 number) (number_named 1 256 qubits) (number_named 0 65536 items) (machine_of machine)
+rehearse_of _ = None
+
+-- what the words ask for, by the first of them
+abbrev pub request_of : List (List ℕ) → Option Asked
+request_of [] = None
+request_of (command ∷ words) =
+    if bytes_eq command (codes "run") then run_of words
+    else if bytes_eq command (codes "rehearse") then rehearse_of words
+    else None
 
 -- what a command of the code asks for
 abbrev pub machine_asked : MachineWord → AskedMachine
@@ -66,6 +113,7 @@ machine_asked (word.File name) = OfFile name.now
 
 abbrev pub asked : Command → Asked
 asked (command.Run machine circuit workers mode) = AskedRun (machine_asked machine) circuit.now workers mode
+asked (command.Rehearse number qubits items machine workers) = AskedRehearse number qubits items (machine_asked machine) workers
 
 -- a capacity that is asked for is from 2 to 32
 abbrev pub HasCapacity : AskedMachine → Type 0
@@ -74,3 +122,12 @@ HasCapacity (OfFile name) = Unit {0}
 
 abbrev pub HasCapacityAsked : Command → Type 0
 HasCapacityAsked (command.Run machine circuit workers mode) = HasCapacity (machine_asked machine)
+HasCapacityAsked (command.Rehearse number qubits items machine workers) = HasCapacity (machine_asked machine)
+
+-- a circuit is made from a number up to a limit, and has 1 to 256 qubits and at most 65,536 items
+abbrev pub AreFew : (number qubits items : ℕ) → Type 0
+AreFew number qubits items = (number ≤ 2147483647) × (1 ≤ qubits) × (qubits ≤ 256) × (items ≤ 65536)
+
+abbrev pub AreFewAsked : Command → Type 0
+AreFewAsked (command.Run machine circuit workers mode) = Unit {0}
+AreFewAsked (command.Rehearse number qubits items machine workers) = AreFew number qubits items

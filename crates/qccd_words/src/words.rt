@@ -1,13 +1,20 @@
 //! What the words of the command line ask for.
 
 ghost use Rattle.std.specs.Prelude.{◌≡◌, ℕ, ◌≤◌, ◌↔◌, map, Some, IfSome, option_map, string_bytes, decimal};
-ghost use Rattle.qccd_words.specs.Words.{asked, machine_asked, capacity_after, preset_named, machine_of, request_of, HasCapacity, HasCapacityAsked};
+ghost use Rattle.qccd_words.specs.Words.{asked, machine_asked, capacity_after, preset_named, machine_of, mode_named, mode_of, number_named, rehearse_of, request_of, run_of, HasCapacity, HasCapacityAsked, AreFewAsked};
 
 use qccd_base::{Mode, read_number};
 use qccd_machine::Preset;
 
 /// How many ions a trap holds at most, where the machine's word does not say.
 const USUAL_CAPACITY: u8 = 16;
+
+/// The greatest number that a circuit is made from, and how many qubits and items it has at most.
+const GREATEST_NUMBER: u64 = 2147483647;
+
+const MOST_QUBITS: u64 = 256;
+
+const MOST_ITEMS: u64 = 65536;
 
 /// How many workers run a program, where the words do not say.
 const USUAL_WORKERS: u8 = 4;
@@ -34,26 +41,109 @@ pub enum Command<'a> {
         workers: u8,
         mode: Mode,
     },
+    /// Make a circuit from a number, compile it for a machine, and run the program.
+    Rehearse {
+        /// At most 2,147,483,647.
+        number: u32,
+        /// How many qubits the circuit has: 1 to 256.
+        qubits: u16,
+        /// How many items the circuit has: at most 65,536.
+        items: u32,
+        machine: MachineWord<'a>,
+        /// How many workers run the program.
+        workers: u8,
+    },
 }
 
 /// What the words ask for, or `None` where they are of no form that is known. The words are those
 /// after the program's own name. It takes no memory.
 ///
-/// For now one form is known, `run MACHINE CIRCUIT`. The machine is `@L6`, `@G2x3` or `@single`, or
-/// one of these with a colon and a capacity from 2 to 32 that has no sign and no leading zero, or any
-/// word that does not begin with `@`, which is the name of a file. The circuit is any word as it
-/// stands. An empty word is the name of a file, too.
+/// For now two forms are known. One is `run MACHINE CIRCUIT`, after which `--swap ion` or `--swap gate` may
+/// stand; where it does not, it is `ion`. The other is `rehearse NUMBER QUBITS ITEMS MACHINE`, with a number of
+/// at most 2,147,483,647, 1 to 256 qubits and at most 65,536 items. The machine is `@L6`, `@G2x3` or `@single`,
+/// or one of these with a colon and a capacity from 2 to 32, or any word that does not begin with `@`, which is
+/// the name of a file. No number has a sign or a leading zero. The circuit is any word as it stands. An empty
+/// word is the name of a file, too.
 pub fn request(words: &[String]) -> Option<Command<'_>>
     ensures asked { option_map asked result ≡ request_of (map string_bytes words.now) }
     ensures capacity { IfSome result HasCapacityAsked }
+    ensures few { IfSome result AreFewAsked }
 {
     match words {
-        [command, machine, circuit] if command.as_str() == "run" => Some(Command::Run {
+        [command, words @ ..] if command.as_str() == "run" => run_words(words),
+        [command, words @ ..] if command.as_str() == "rehearse" => rehearsal_words(words),
+        _ => None,
+    }
+}
+
+// The run that the words after the first one ask for.
+fn run_words(words: &[String]) -> Option<Command<'_>>
+    ensures asked { option_map asked result ≡ run_of (map string_bytes words.now) }
+    ensures capacity { IfSome result HasCapacityAsked }
+    ensures few { IfSome result AreFewAsked }
+{
+    match words {
+        [machine, circuit, options @ ..] => Some(Command::Run {
             machine: machine_word(machine.as_str())?,
             circuit: circuit.as_str(),
             workers: USUAL_WORKERS,
-            mode: Mode::IonSwap,
+            mode: mode_words(options)?,
         }),
+        _ => None,
+    }
+}
+
+// The rehearsal that the words after the first one ask for.
+fn rehearsal_words(words: &[String]) -> Option<Command<'_>>
+    ensures asked { option_map asked result ≡ rehearse_of (map string_bytes words.now) }
+    ensures capacity { IfSome result HasCapacityAsked }
+    ensures few { IfSome result AreFewAsked }
+{
+    let [number, qubits, items, machine] = words else {
+        return None;
+    };
+    let number = number_word(number.as_str(), 0, GREATEST_NUMBER)?;
+    let qubits = number_word(qubits.as_str(), 1, MOST_QUBITS)?;
+    let items = number_word(items.as_str(), 0, MOST_ITEMS)?;
+    let machine = machine_word(machine.as_str())?;
+    Some(Command::Rehearse {
+        number: number as u32,
+        qubits: qubits as u16,
+        items: items as u32,
+        machine,
+        workers: USUAL_WORKERS,
+    })
+}
+
+// The number in the range whose text the word is.
+fn number_word(word: &str, low: u64, high: u64) -> Option<u64>
+    ensures named { result ≡ number_named low high word.now }
+    ensures within { IfSome result (λ n. (low ≤ n) × (n ≤ high)) }
+{
+    match read_number(word.as_bytes())? {
+        number if low <= number && number <= high => Some(number),
+        _ => None,
+    }
+}
+
+// The mode that the words after the circuit's name ask for.
+fn mode_words(options: &[String]) -> Option<Mode>
+    ensures { result ≡ mode_of (map string_bytes options.now) }
+{
+    match options {
+        [] => Some(Mode::IonSwap),
+        [option, value] if option.as_str() == "--swap" => mode_word(value.as_str()),
+        _ => None,
+    }
+}
+
+// The mode that the word names.
+fn mode_word(word: &str) -> Option<Mode>
+    ensures { result ≡ mode_named word.now }
+{
+    match word {
+        "ion" => Some(Mode::IonSwap),
+        "gate" => Some(Mode::GateSwap),
         _ => None,
     }
 }

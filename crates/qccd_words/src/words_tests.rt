@@ -63,6 +63,49 @@ fn reads_runs(rt: HostRuntime) -> Result<(), Fail> {
 }
 
 #[test]
+fn reads_modes(rt: HostRuntime) -> Result<(), Fail> {
+    for (text, mode) in [
+        ("run @L6:5 a --swap ion", Mode::IonSwap),
+        ("run @L6:5 a --swap gate", Mode::GateSwap),
+    ] {
+        let words = words_of(rt.alloc(), text)?;
+        let asked = Command::Run {
+            machine: MachineWord::Preset(Preset::L6, 5),
+            circuit: "a",
+            workers: 4,
+            mode,
+        };
+        assert_eq!(rt; request(&words), Some(asked), "{text}");
+    }
+    Ok(())
+}
+
+#[test]
+fn reads_rehearsals(rt: HostRuntime) -> Result<(), Fail> {
+    for (text, number, qubits, items) in [
+        ("rehearse 1 3 4 @G2x3", 1, 3, 4),
+        ("rehearse 0 1 0 @G2x3", 0, 1, 0),
+        (
+            "rehearse 2147483647 256 65536 @G2x3",
+            2147483647,
+            256,
+            65536,
+        ),
+    ] {
+        let words = words_of(rt.alloc(), text)?;
+        let asked = Command::Rehearse {
+            number,
+            qubits,
+            items,
+            machine: MachineWord::Preset(Preset::G2x3, 16),
+            workers: 4,
+        };
+        assert_eq!(rt; request(&words), Some(asked), "{text}");
+    }
+    Ok(())
+}
+
+#[test]
 fn reads_nothing_else(rt: HostRuntime) -> Result<(), Fail> {
     let none = Vec::new(rt.alloc());
     assert_eq!(rt; request(&none), None);
@@ -81,8 +124,21 @@ fn reads_nothing_else(rt: HostRuntime) -> Result<(), Fail> {
         "run @single16 a",
         "run @single a --workers 4",
         "run @single a b",
+        "run @single a --swap",
+        "run @single a --swap both",
+        "run @single a --swap ion --swap ion",
         "runs @single a",
         "exec @single p",
+        "rehearse 1 0 4 @L6",
+        "rehearse 2147483648 3 4 @L6",
+        "rehearse 1 257 4 @L6",
+        "rehearse 1 3 65537 @L6",
+        "rehearse 01 3 4 @L6",
+        "rehearse 1 +3 4 @L6",
+        "rehearse 1 3  @L6",
+        "rehearse 1 3 4",
+        "rehearse 1 3 4 @L7",
+        "rehearse 1 3 4 @L6 --workers 4",
     ];
     for text in table {
         let words = words_of(rt.alloc(), text)?;

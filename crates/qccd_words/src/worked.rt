@@ -1,15 +1,18 @@
 //! Worked examples of what the definitions say. Each function does nothing: its contract is the example.
 
 ghost use Rattle.std.specs.Prelude.{◌≡◌, [], ◌∷◌, Some, None, codes};
-ghost use Rattle.qccd_base.specs.declared.names.Mode.TheVariants.{IonSwap};
+ghost use Rattle.qccd_base.specs.declared.names.Mode.TheVariants.{IonSwap, GateSwap};
 ghost use Rattle.qccd_machine.specs.declared.place.Preset.TheVariants.{L6, G2x3, Single};
-ghost use Rattle.qccd_words.specs.Words.{AskedRun, OfPreset, OfFile, machine_of, request_of};
+ghost use Rattle.qccd_words.specs.Words.{AskedRehearse, AskedRun, OfPreset, OfFile, machine_of, number_named, request_of};
 
 /// A run in one trap of at most two ions, with the usual workers and mode, and a number with a
 /// leading zero in place of the two, which asks for nothing.
 pub fn run_in_one_trap()
     ensures two { request_of (codes "run" ∷ codes "@single:2" ∷ codes "a" ∷ [])
         ≡ Some (AskedRun (OfPreset Single 2) (codes "a") 4 IonSwap) }
+    ensures by_gates { request_of (codes "run" ∷ codes "@single:2" ∷ codes "a" ∷ codes "--swap" ∷ codes "gate" ∷ [])
+        ≡ Some (AskedRun (OfPreset Single 2) (codes "a") 4 GateSwap) }
+    ensures no_value { request_of (codes "run" ∷ codes "@single:2" ∷ codes "a" ∷ codes "--swap" ∷ []) ≡ None }
     ensures leading_zero { request_of (codes "run" ∷ codes "@single:02" ∷ codes "a" ∷ []) ≡ None }
 {}
 
@@ -22,4 +25,26 @@ pub fn machines_named()
     ensures file { machine_of (codes "m.toml") ≡ Some (OfFile (codes "m.toml")) }
     ensures no_at { machine_of (codes "L6") ≡ Some (OfFile (codes "L6")) }
     ensures empty { machine_of [] ≡ Some (OfFile []) }
+{}
+
+/// A rehearsal in one trap of at most four ions, with the usual workers, and words that ask for none: no qubit,
+/// a part too many, and a part too few.
+pub fn rehearsal_in_one_trap()
+    ensures four { request_of (codes "rehearse" ∷ codes "1" ∷ codes "3" ∷ codes "4" ∷ codes "@single:4" ∷ [])
+        ≡ Some (AskedRehearse 1 3 4 (OfPreset Single 4) 4) }
+    ensures no_qubit { request_of (codes "rehearse" ∷ codes "1" ∷ codes "0" ∷ codes "4" ∷ codes "@L6" ∷ []) ≡ None }
+    ensures too_many { request_of (codes "rehearse" ∷ codes "1" ∷ codes "3" ∷ codes "4" ∷ codes "@L6" ∷ codes "a" ∷ []) ≡ None }
+    ensures too_few { request_of (codes "rehearse" ∷ codes "1" ∷ codes "3" ∷ codes "4" ∷ []) ≡ None }
+{}
+
+/// What words name as a number in a range.
+pub fn numbers_named()
+    ensures least { number_named 0 2147483647 (codes "0") ≡ Some 0 }
+    ensures greatest { number_named 0 2147483647 (codes "2147483647") ≡ Some 2147483647 }
+    ensures greater { number_named 0 2147483647 (codes "2147483648") ≡ None }
+    ensures less { number_named 1 256 (codes "0") ≡ None }
+    ensures leading_zero { number_named 1 256 (codes "07") ≡ None }
+    ensures sign { number_named 1 256 (codes "+7") ≡ None }
+    ensures letter { number_named 1 256 (codes "7a") ≡ None }
+    ensures empty { number_named 0 65536 [] ≡ None }
 {}

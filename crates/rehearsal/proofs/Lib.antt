@@ -1,1 +1,1 @@
-mod Circuits
+pub mod Circuits

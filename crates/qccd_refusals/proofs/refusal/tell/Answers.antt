@@ -26,10 +26,6 @@ returns-in-Machine g c =
     let first = c.as_bytes-in-Machine.ensures.value ∙ c.deref-in-Machine.ensures.0 ∙ c.text.ensures in
     rw (c.in-Machine.is, ← first) c.send_all-in-Machine.ensures
 
-pub returns-in-NotBuilt : goal.returns-in-NotBuilt
-returns-in-NotBuilt g c =
-    rw c.in-NotBuilt.is c.send_all-in-NotBuilt.ensures
-
 pub returns-in-Circuit : goal.returns-in-Circuit
 returns-in-Circuit g c =
     let first = c.as_bytes-in-Circuit.ensures.value ∙ c.deref-in-Circuit.ensures.0 ∙ c.number_text-in-Circuit.ensures ∙ ap decimal c.into-in-Circuit.ensures in
@@ -41,6 +37,13 @@ returns-in-Shortage g c =
     let first = c.as_bytes-in-Shortage.ensures.value ∙ c.deref-in-Shortage.ensures.0 ∙ c.number_text-in-Shortage.ensures ∙ ap decimal c.into-in-Shortage.ensures in
     let second = c.as_bytes-in-Shortage-2.ensures.value ∙ c.deref-in-Shortage-2.ensures.0 ∙ c.number_text-in-Shortage-2.ensures ∙ ap decimal c.into-in-Shortage-2.ensures in
     rw (c.in-Shortage.is, ← first, ← second) c.send_all-in-Shortage.ensures
+
+pub returns-in-TooLong : goal.returns-in-TooLong
+returns-in-TooLong g c =
+    let first = c.as_bytes-in-TooLong.ensures.value ∙ c.deref-in-TooLong.ensures.0 ∙ c.number_text-in-TooLong.ensures ∙ ap decimal c.into-in-TooLong.ensures in
+    let second = c.as_bytes-in-TooLong-2.ensures.value ∙ c.deref-in-TooLong-2.ensures.0 ∙ c.number_text-in-TooLong-2.ensures ∙ ap decimal c.into-in-TooLong-2.ensures in
+    let third = c.as_bytes-in-TooLong-3.ensures.value ∙ c.deref-in-TooLong-3.ensures.0 ∙ c.number_text-in-TooLong-3.ensures ∙ ap decimal c.into-in-TooLong-3.ensures in
+    rw (c.in-TooLong.is, ← first, ← second, ← third) c.send_all-in-TooLong.ensures
 
 pub returns-in-NoMemory : goal.returns-in-NoMemory
 returns-in-NoMemory g c =

@@ -1,16 +1,10 @@
-use Rattle.std.proofs.Common.{◌≡◌, ℕ, length, refl, sym, ◌∙◌, ap, inl, inr, arith}
+use Rattle.std.proofs.Common.{refl, inl, inr}
+use Rattle.qccd_words.specs.Words.{AskedRun}
+use Rattle.qccd_refusals.specs.Cause.{TooLarge}
 use Rattle.qccd_top.specs.Stage.{◌>>=◌}
-use Rattle.qccd_words.specs.Words.{OfPreset, OfFile, AskedRun}
-use Rattle.qccd_refusals.specs.Cause.{Words, Read, TooLarge, Machine, NotBuilt, Circuit, Shortage}
-use Rattle.qccd_machine.specs.declared.place.Preset.TheVariants.{L6, Single}
-use Rattle.qccd_machine.specs.Machine.{MachineData, slots_of}
-use Rattle.qccd_machine.specs.Preset.{preset_of, single}
-use Rattle.one_trap.specs.Program.{in_one_trap}
-use Rattle.tracer.specs.Report.{report_text}
-use Rattle.qccd_top.specs.Stages.{one_trap_of}
 use Rattle.qccd_top.proofs.laws.large_circuit.Goals as goal
 
 pub returns : goal.returns
 unfolding ◌>>=◌
-returns c = λ words held capacity circuit text workers mode reading there large.
-    inr (TooLarge circuit 16777216, inr (AskedRun (OfPreset Single capacity) circuit workers mode, reading, inl (inr (single capacity, refl, inr (tt, refl, inl (inl (refl, refl, (text, there, large))))))), refl)
+returns c = λ words held machine circuit text workers mode m reading given there large.
+    inr (TooLarge circuit 16777216, inr (AskedRun machine circuit workers mode, reading, inl (inr (m, given, inl (inl (refl, refl, (text, there, large)))))), refl)

@@ -1,13 +1,7 @@
-use Rattle.std.proofs.Common.{◌≡◌, ℕ, length, refl, sym, ◌∙◌, ap, inl, inr, arith}
+use Rattle.std.proofs.Common.{refl, inl, inr}
+use Rattle.qccd_words.specs.Words.{OfFile, AskedRun}
+use Rattle.qccd_refusals.specs.Cause.{Machine}
 use Rattle.qccd_top.specs.Stage.{◌>>=◌}
-use Rattle.qccd_words.specs.Words.{OfPreset, OfFile, AskedRun}
-use Rattle.qccd_refusals.specs.Cause.{Words, Read, TooLarge, Machine, NotBuilt, Circuit, Shortage}
-use Rattle.qccd_machine.specs.declared.place.Preset.TheVariants.{L6, Single}
-use Rattle.qccd_machine.specs.Machine.{MachineData, slots_of}
-use Rattle.qccd_machine.specs.Preset.{preset_of, single}
-use Rattle.one_trap.specs.Program.{in_one_trap}
-use Rattle.tracer.specs.Report.{report_text}
-use Rattle.qccd_top.specs.Stages.{one_trap_of}
 use Rattle.qccd_top.proofs.laws.refused_machine.Goals as goal
 
 pub returns : goal.returns

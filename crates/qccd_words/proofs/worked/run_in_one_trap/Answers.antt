@@ -11,3 +11,11 @@ returns-clause-two c = refl
 pub returns-clause-leading_zero : goal.returns-clause-leading_zero
 unfolding digits capacities
 returns-clause-leading_zero c = refl
+
+pub returns-clause-by_gates : goal.returns-clause-by_gates
+unfolding digits capacities
+returns-clause-by_gates c = refl
+
+pub returns-clause-no_value : goal.returns-clause-no_value
+unfolding digits capacities
+returns-clause-no_value c = refl

@@ -1,0 +1,94 @@
+#!/bin/sh
+# How much processor time `run` takes on circuits of 65,536 gates, beside a count of words of the report that
+# it writes, and what memory. It checks nothing, and no test runs it.
+#
+#   bench/run_speed.sh
+#
+# The program is ./qccd, which has to be built.
+set -u
+here=$(cd "$(dirname "$0")" && pwd) || exit 1
+program=$here/../crates/qccd/out/qccd
+
+if ! [ -x "$program" ]; then
+    echo "the program is not built yet: call ./qccd once" >&2
+    exit 1
+fi
+folder=$(mktemp -d "${TMPDIR:-/tmp}/run-speed.XXXXXX") || exit 1
+trap 'rm -rf "$folder"' EXIT
+
+# The circuit of 65,536 items that `rehearse 7 QUBITS 65536` makes, as a text.
+circuit() {
+    awk -v qubits="$1" 'function draw(bound) {
+        high = int(x / 65536); low = x % 65536
+        x = (((high * 1103515245) % 32768) * 65536 + low * 1103515245 + 12345) % 2147483648
+        return int(x / 65536) % bound
+    }
+    BEGIN {
+        printf "OPENQASM 2.0;\ninclude \"qelib1.inc\";\nqreg q[%d];\n", qubits
+        x = 7
+        for (n = 0; n < 65536; n++) {
+            kind = draw(3); a = draw(qubits)
+            if (kind == 0) printf "h q[%d];\n", a
+            if (kind == 1) printf "x q[%d];\n", a
+            if (kind == 2) { b = draw(qubits - 1); if (b >= a) b++; printf "cx q[%d],q[%d];\n", a, b }
+        }
+    }'
+}
+
+# A line of 32 traps of two ions.
+line() {
+    awk 'BEGIN {
+        for (t = 0; t < 32; t++) printf "[[trap]]\ncapacity = 2\n"
+        for (t = 0; t < 31; t++) printf "[[segment]]\na = \"T%d.right\"\nb = \"T%d.left\"\n", t, t + 1
+    }'
+}
+
+# Gates that take one qubit to the far end of the line and back.
+far() {
+    awk -v turns="$1" 'BEGIN {
+        printf "OPENQASM 2.0;\ninclude \"qelib1.inc\";\nqreg q[33];\nx q;\n"
+        for (n = 0; n < turns; n++) printf "cx q[0],q[32];\ncx q[0],q[1];\n"
+    }'
+}
+
+# Seconds of processor time, and the most memory in KiB.
+measure() {
+    /usr/bin/time -f "%U %S %M" -o "$folder/took" "$@" >"$folder/out" 2>"$folder/err"
+    awk '{ printf "%.3f %d", $1 + $2, $3 }' "$folder/took"
+}
+
+row() {
+    name=$1
+    machine=$2
+    set -- $(measure "$program" run "$machine" "$folder/circuit")
+    mv "$folder/out" "$folder/report"
+    ops=$(awk '/^ops / { print $2; exit }' "$folder/report")
+    set -- "$1" "$2" $(measure wc "$folder/report")
+    words=$3
+    awk -v name="$name" -v ops="$ops" -v run="$1" -v memory="$2" -v words="$3" 'BEGIN {
+        printf "%s: %d operations, run %.3f s, %.2f of wc (%.3f s), %d MB, %d bytes and %d ns an operation\n",
+            name, ops, run, words ? run / words : 0, words, memory / 1024, ops ? memory * 1024 / ops : 0, ops ? run * 1e9 / ops : 0
+    }'
+}
+
+# The same from the number: no text of a circuit, and a summary in place of the report.
+rehearsed() {
+    set -- $(measure "$program" rehearse 7 "$1" 65536 "$2")
+    awk -v took="$1" -v words="$words" 'BEGIN { printf "    rehearse %.3f s, %.2f of wc\n", took, words ? took / words : 0 }'
+}
+
+circuit 32 >"$folder/circuit"
+row "@single:32, 32 qubits" @single:32
+rehearsed 32 @single:32
+circuit 95 >"$folder/circuit"
+row "@L6:16, 95 qubits" @L6:16
+rehearsed 95 @L6:16
+circuit 64 >"$folder/circuit"
+row "@G2x3:16, 64 qubits" @G2x3:16
+rehearsed 64 @G2x3:16
+circuit 95 >"$folder/circuit"
+row "@G2x3:16, 95 qubits" @G2x3:16
+rehearsed 95 @G2x3:16
+line >"$folder/machine"
+far 8000 >"$folder/circuit"
+row "a line of 32 traps of 2, 33 qubits" "$folder/machine"

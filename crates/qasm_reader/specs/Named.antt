@@ -1,0 +1,22 @@
+-- The names that code keeps.
+use Rattle.std.specs.Prelude.{ℕ, List, Option}
+use Rattle.std.specs.Borrow.{Bor}
+use Rattle.std.specs.BTreeMap.{get_by}
+use Rattle.std.specs.Cmp.Lexicographic.{slice_cmp}
+use Rattle.std.specs.Ordering.{nat_cmp}
+use Rattle.qasm_reader.specs.declared.gates.KnownGate.{KnownGate}
+use Rattle.qasm_reader.specs.declared.kinds.Register.{Register}
+use Rattle.qasm_reader.specs.declared.names.Names.{Names}
+use Rattle.qasm_reader.specs.Gates.{Gate}
+
+-- the register that a name stands for
+abbrev pub stands_for : Names → List ℕ → Option Register
+stands_for names name = get_by (λ key. slice_cmp nat_cmp name key.items) names.map
+
+-- the gate
+abbrev pub shape : KnownGate → Gate
+shape g = record { name = g.name.now; angles = g.angles; qubits = g.qubits }
+
+-- the gate of a row of name, angles and qubits
+abbrev pub row_gate : Bor (List ℕ) × ℕ × ℕ → Gate
+row_gate row = record { name = row.0.now; angles = row.1; qubits = row.2 }

@@ -1,0 +1,41 @@
+//! The registers by their names.
+
+ghost use Rattle.std.specs.Prelude.{◌≡◌, None, OnOk};
+ghost use Rattle.qasm_reader.specs.Known.{with_name};
+ghost use Rattle.qasm_reader.specs.Named.{stands_for};
+
+use crate::kinds::Register;
+use std::alloc::{AllocError, Global};
+use std::collections::BTreeMap;
+
+/// The registers by their names.
+#[derive(Drop)]
+pub(crate) struct Names {
+    pub(crate) map: BTreeMap<Vec<u8>, Register>,
+}
+
+impl Names {
+    /// No name stands for a register.
+    pub(crate) fn new(alloc: Global) -> Names
+        ensures { stands_for result ≡ (λ _. None) }
+    {
+        Names {
+            map: BTreeMap::new(alloc),
+        }
+    }
+
+    /// The register that the name stands for.
+    pub(crate) fn find(&self, name: &[u8]) -> Option<Register>
+        ensures { result ≡ stands_for self.now name.now }
+    {
+        self.map.get(name).copied()
+    }
+
+    /// Lets the name stand for the register.
+    pub(crate) fn add(&mut self, name: Vec<u8>, register: Register) -> Result<(), AllocError>
+        ensures { OnOk result (stands_for self.new ≡ with_name name.items register (stands_for self.old)) }
+    {
+        self.map.insert(name, register)?;
+        Ok(())
+    }
+}
