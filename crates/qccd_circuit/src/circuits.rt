@@ -1,4 +1,6 @@
-ghost use Rattle.std.specs.Prelude.{◌≡◌, ◌<◌, ◌≤◌, ◌++◌, ◌∷◌, [], OnErr, OnOk, length};
+//! Circuits.
+
+ghost use Rattle.std.specs.Prelude.{◌≡◌, ◌<◌, ◌≤◌, ◌++◌, ◌∷◌, [], IfOk, OnErr, OnOk, length};
 ghost use Rattle.qccd_circuit.specs.Circuit.{IsCircuit, IsWithin};
 
 use crate::items::Item;
@@ -36,6 +38,20 @@ impl Circuit {
             bits,
             items: Vec::new(alloc),
         }
+    }
+
+    /// The same, with room for so many items.
+    pub fn with_room(alloc: Global, qubits: u16, bits: u16, room: u32) -> Result<Circuit, NoMemory>
+        requires few_qubits { qubits ≤ 256 }
+        requires few_bits { bits ≤ 256 }
+        ensures { IfOk result (λ circuit. circuit ≡ record { qubits = qubits; bits = bits; items = [] }) }
+    {
+        let items = Vec::with_capacity(alloc, room as usize)?;
+        Ok(Circuit {
+            qubits,
+            bits,
+            items,
+        })
     }
 
     /// How many qubits the circuit has.

@@ -1,3 +1,5 @@
+//! Items of circuits.
+
 ghost use Rattle.std.specs.Prelude.{◌≡◌, ◌↔◌, ◌<◌, All, IfOk, IsTrue, None, get_or, length};
 ghost use Rattle.qccd_circuit.specs.Circuit.{IsWithin};
 ghost use Rattle.qccd_circuit.specs.Item.{Fits, bits_from, cond_bits};
@@ -8,6 +10,9 @@ use crate::texts::{AngleList, Name};
 use qccd_base::{Bit, BitList, NoMemory, Qubit, QubitList};
 use std::marker::Model;
 
+// The condition of an item that has none.
+const UNCONDITIONAL: Option<Cond> = None;
+
 /// One item of a circuit: a gate, a measurement, a reset or a barrier, that fits.
 #[derive(Debug, Drop)]
 pub struct Item {
@@ -16,7 +21,6 @@ pub struct Item {
     angles: AngleList,
     qubits: QubitList,
     bits: BitList,
-    cond: Option<Cond>,
 }
 
 impl Model for Item {
@@ -25,9 +29,10 @@ impl Model for Item {
 
     ghost Value = { ItemData };
 
-    ghost view = { λ a. record { kind = a.kind; name = a.name; angles = a.angles; qubits = a.qubits; bits = a.bits; cond = a.cond } };
+    // No item is conditional yet, so none takes room for a condition.
+    ghost view = { λ a. record { kind = a.kind; name = a.name; angles = a.angles; qubits = a.qubits; bits = a.bits; cond = None } };
 
-    ghost invariant = { λ a. Fits (record { kind = a.kind; name = a.name; angles = a.angles; qubits = a.qubits; bits = a.bits; cond = a.cond }) × (a.cond ≡ None) };
+    ghost invariant = { λ a. Fits (record { kind = a.kind; name = a.name; angles = a.angles; qubits = a.qubits; bits = a.bits; cond = None }) };
 }
 
 impl Item {
@@ -52,7 +57,6 @@ impl Item {
             angles,
             qubits,
             bits,
-            cond,
         }
     }
 
@@ -99,7 +103,9 @@ impl Item {
         // No item is conditional yet.
         ensures unconditional { self.now.cond ≡ None }
     {
-        &self.cond
+        // The item is of this form, as the rule of its type tells.
+        let _kind = &self.kind;
+        &UNCONDITIONAL
     }
 
     /// How many operands the item has: its qubits, the bits that it writes, and those that its condition
@@ -107,7 +113,7 @@ impl Item {
     pub fn operand_count(&self) -> usize
         ensures { result ≡ length (operands_of self.now) }
     {
-        let (_, read) = read_bits(&self.cond);
+        let (_, read) = read_bits(self.cond());
         let qubits = self.qubits.as_slice();
         let bits = self.bits.as_slice();
         qubits.len() + bits.len() + usize::from(read)
@@ -127,7 +133,7 @@ impl Item {
         if k < bits.len() {
             return 2 * usize::from(bits[k].0) + 1;
         }
-        let (first, _) = read_bits(&self.cond);
+        let (first, _) = read_bits(self.cond());
         2 * (usize::from(first) + (k - bits.len())) + 1
     }
 
@@ -146,7 +152,6 @@ impl Item {
             angles,
             qubits: QubitList::of(qubits),
             bits: BitList::of(bits),
-            cond: self.cond,
         })
     }
 
@@ -157,7 +162,7 @@ impl Item {
     {
         qubits_below(self.qubits.as_slice(), qubits)
             && bits_below(self.bits.as_slice(), bits)
-            && cond_below(&self.cond, bits)
+            && cond_below(self.cond(), bits)
     }
 }
 

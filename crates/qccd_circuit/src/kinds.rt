@@ -1,3 +1,5 @@
+//! What items do, and the conditions under which they do it.
+
 use qccd_base::Bit;
 
 /// What an item does to its qubits.

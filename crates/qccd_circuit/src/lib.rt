@@ -21,6 +21,3 @@ pub use marks::Marks;
 pub use orders::same_order;
 pub use sharing::shares;
 pub use texts::{Angle, AngleList, Name};
-
-#[cfg(test)]
-mod tests;

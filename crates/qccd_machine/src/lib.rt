@@ -12,8 +12,6 @@ mod parts;
 mod place;
 mod preset;
 mod reach;
-#[cfg(test)]
-mod tests;
 pub mod worked;
 
 pub use fault::{MachineFault, PartKind};

@@ -18,7 +18,7 @@ pub fn rehearsal(alloc: Global, number: u32, qubits: u16, items: u32) -> Result<
     requires few_items { items ≤ 65536 }
     ensures { IfOk result (λ circuit. circuit ≡ generated number qubits items) }
 {
-    let mut circuit = Circuit::begin(alloc, qubits, 0);
+    let mut circuit = Circuit::with_room(alloc, qubits, 0, items)?;
     let mut draws = Draws { at: number };
     for _ in 0..items {
         circuit.add(draw_item(&mut draws, alloc, qubits)?)?;
