@@ -13,7 +13,6 @@ pub mod laws;
 mod legality;
 mod numbering;
 mod opening;
-mod permitting;
 mod places;
 mod running;
 
@@ -24,7 +23,8 @@ pub use held::apply;
 pub use legality::legal;
 pub use numbering::{count_of, index_of};
 pub use opening::start_chain;
-pub use permitting::may_run;
 
+#[cfg(test)]
+mod permitting;
 #[cfg(test)]
 mod tests;

@@ -1,4 +1,4 @@
-//! Whether an operation may be run.
+//! Whether an operation may be run: what tests ask before they run one.
 
 ghost use Rattle.std.specs.Prelude.{◌≡◌, ◌^◌, ◌&&◌, IsTrue, length, map, nat_lt};
 ghost use Rattle.std.specs.List.{list_all};
@@ -21,7 +21,7 @@ const BOUND: u64 = 4611686018427387904;
 
 /// Whether the operation may be run on the cells: they are there, it is legal on them, their clocks and
 /// heats are below 2^62, and the log of the first has room.
-pub fn may_run(machine: &Machine, op: &Op, cells: &Cells) -> bool
+pub(crate) fn may_run(machine: &Machine, op: &Op, cells: &Cells) -> bool
     ensures { IsTrue result → MayRun machine.now op.now cells.now }
 {
     let touched = op.touches();

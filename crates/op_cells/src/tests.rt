@@ -5,6 +5,7 @@ ghost use Rattle.std.specs.Prelude.{◌≡◌, IfOk, IfSome};
 ghost use Rattle.op_table.specs.Op.{IsOp};
 
 use super::*;
+use crate::permitting::may_run;
 use arrayvec::ArrayVec;
 use op_table::{Content, Entry, Op, OpKind, Why};
 use qccd_base::{
