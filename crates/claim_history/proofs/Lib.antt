@@ -1,0 +1,15 @@
+pub mod Cells
+pub mod Coded
+pub mod Ends
+pub mod Events
+pub mod Examples
+pub mod Faithful
+pub mod Follows
+pub mod Kept
+pub mod Legally
+pub mod Ordered
+pub mod Swapped
+pub mod Testing
+pub mod Timing
+pub mod Turns
+pub mod Written
