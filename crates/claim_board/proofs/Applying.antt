@@ -1,0 +1,106 @@
+-- The cells that a claim got may be applied to, and then they are those to hand back.
+use Rattle.std.proofs.Common.{◌≡◌, ℕ, zero, suc, ◌+◌, ◌<◌, ◌≤◌, ◌^◌, true, List, [], ◌∷◌, length, map, take, get_or, refl, sym, ◌∙◌, ap, subst, arith, Option, Some, None}
+use Rattle.std.specs.List.{AllByRecursion}
+use Rattle.std.specs.Prelude.{slice_get, All}
+use Rattle.std.proofs.lemmas.List.Elements.{All-from_recursion, recursion_from_All}
+use Rattle.qccd_base.specs.declared.names.Res.{Res}
+use Rattle.qccd_machine.specs.Machine.{MachineData, IsValid}
+use Rattle.op_table.specs.declared.kinds.OpKind.{OpKind}
+use Rattle.op_table.specs.declared.contents.Content.{Content}
+use Rattle.op_table.specs.Act.{why_on}
+use Rattle.op_table.specs.Contents.{heat_held}
+use Rattle.op_table.specs.Touch.{touches, nth, is_first, is_head}
+use Rattle.op_cells.specs.Acted.{CellData, acted_on, data_of, room_of}
+use Rattle.op_cells.specs.Settled.{contents_of}
+use Rattle.op_cells.specs.declared.cells.Held.{Held}
+use Rattle.claim_core.specs.CellOfRun.{IsCell, cell_at, firsts}
+use Rattle.claim_core.specs.Legal.{IsLegalProgram}
+use Rattle.claim_core.specs.MeetsCells.{MeetsCells, own_cells, next_cells}
+use Rattle.claim_core.specs.Program.{ProgramData}
+use Rattle.claim_core.proofs.MeetsCells.{meets-cells}
+use Rattle.claim_history.specs.Event.{touched}
+use Rattle.claim_history.proofs.Legally.{touched_at}
+use Rattle.qccd_base.proofs.Resources.{same_res-own}
+use Rattle.claim_board.specs.Applied.{Applied, MayApply}
+use Rattle.claim_board.specs.Pass.{AreCells, next_turn}
+
+data_is : (p : ProgramData) (r : Res) (n : ℕ) (h : Held) → IsCell p r n h.cell → data_of h.cell ≡ cell_at p r n
+data_is p r n h is = λ i. record { content = is.content i; clock = is.clock i; log = is.log i }
+
+-- what holds of each cell, where each is that of its resource at its turn
+abbrev Each : ProgramData → (Res → ℕ) → List Held → Type 0
+Each p turn held = AllByRecursion (λ h. IsCell p h.res (turn h.res) h.cell) held
+
+datas : (p : ProgramData) (turn : Res → ℕ) (held : List Held) → Each p turn held → map (λ h. data_of h.cell) held ≡ map (λ r. cell_at p r (turn r)) (map (λ h. h.res) held)
+datas p turn [] all = refl
+datas p turn (h ∷ held) all = λ i. data_is p h.res (turn h.res) h all.0 i ∷ datas p turn held all.1 i
+
+contents : (held : List Held) → contents_of held ≡ map (λ d. d.content) (map (λ h. data_of h.cell) held)
+contents [] = refl
+contents (h ∷ held) = ap (λ (cs : List Content). h.cell.content ∷ cs) (contents held)
+
+each_so : (P : Held → Type 0) (p : ProgramData) (turn : Res → ℕ) (held : List Held) → ((h : Held) → IsCell p h.res (turn h.res) h.cell → P h) → Each p turn held → AllByRecursion P held
+each_so P p turn [] so all = tt
+each_so P p turn (h ∷ held) so all = (so h all.0, each_so P p turn held so all.1)
+
+-- the first log has room
+first_room : (p : ProgramData) (k : ℕ) (op : OpKind) (held : List Held) → MeetsCells p k op → map (λ h. h.res) held ≡ touches op → Each p (nth p.ops k) held → AllByRecursion (λ h. 0 < h.cell.log.spare) (take 1 held)
+first_room p k op [] met names all = tt
+first_room p k op (h ∷ held) met names all =
+    let first : is_first op h.res ≡ true = ap (λ (rs : List Res). is_head rs h.res) (sym names) ∙ same_res-own h.res in
+    let long = ap (λ (log : List _). length log) all.0.log in
+    (omega (arith, met.room h.res first, all.0.room, long), tt)
+
+pub may-apply : (p : ProgramData) (k : ℕ) (op : OpKind) (held : List Held) → IsValid p.machine → IsLegalProgram p → slice_get p.ops k ≡ Some op → AreCells p (nth p.ops k) (touched p.ops k) held → MayApply p.machine op held
+may-apply p k op held valid legal is are =
+    let met = meets-cells p k op valid legal is in
+    let all : Each p (nth p.ops k) held = recursion_from_All (λ (h : Held). IsCell p h.res (nth p.ops k h.res) h.cell) held are.cells in
+    let names : map (λ (h : Held). h.res) held ≡ touches op = are.names ∙ touched_at p.ops k op is in
+    let own : map (λ (h : Held). data_of h.cell) held ≡ own_cells p k op = datas p (nth p.ops k) held all ∙ ap (map (λ (r : Res). cell_at p r (nth p.ops k r))) names in
+    record {
+      names = names;
+      legal = (p.bits, ap (why_on p.machine p.bits op) (contents held ∙ ap (map (λ (d : CellData). d.content)) own) ∙ met.legal);
+      clocks = All-from_recursion (λ (h : Held). h.cell.free_at < 2 ^ 62) held (each_so (λ (h : Held). h.cell.free_at < 2 ^ 62) p (nth p.ops k) held (λ h c. subst (λ (n : ℕ). n < 2 ^ 62) (sym c.clock) (met.clocks h.res)) all);
+      heats =
+          All-from_recursion (λ (h : Held). heat_held h.cell.content < 2 ^ 62) held
+          (each_so (λ (h : Held). heat_held h.cell.content < 2 ^ 62) p (nth p.ops k) held (λ h c. subst (λ (x : Content). heat_held x < 2 ^ 62) (sym c.content) (met.heats h.res)) all);
+      room = All-from_recursion (λ (h : Held). 0 < h.cell.log.spare) (take 1 held) (first_room p k op held met names all);
+    }
+
+-- cells by their names, their data and their rooms
+head_of : {A : Type 0} (d x : A) (xs ys : List A) → x ∷ xs ≡ ys → x ≡ get_or ys 0 d
+head_of d x xs ys same = ap (λ (zs : List _). get_or zs 0 d) same
+
+rebuilt : (p : ProgramData) (turn before : Res → ℕ) (old new : List Held) → map (λ h. h.res) new ≡ map (λ h. h.res) old → map (λ h. room_of h.cell) new ≡ map (λ h. room_of h.cell) old
+    → map (λ h. data_of h.cell) new ≡ map (λ r. cell_at p r (turn r)) (map (λ h. h.res) old) → Each p before old → Each p turn new
+rebuilt p turn before old [] names rooms datas all = tt
+rebuilt p turn before [] (n ∷ new) names rooms datas all = absurd (no_list (length (map (λ (h : Held). h.res) new)) (ap (λ (rs : List Res). length rs) names))
+  where
+    no_list : (m : ℕ) → suc m ≡ zero → ⊥
+    no_list m h = omega arith
+rebuilt p turn before (o ∷ old) (n ∷ new) names rooms datas all =
+    let res_is : n.res ≡ o.res = ap (λ (rs : List Res). get_or rs 0 n.res) names in
+    let room_is : room_of n.cell ≡ room_of o.cell = ap (λ (ms : List ℕ). get_or ms 0 (room_of n.cell)) rooms in
+    let one : data_of n.cell ≡ cell_at p o.res (turn o.res) = ap (λ (ds : List CellData). get_or ds 0 (data_of n.cell)) datas in
+    let at : data_of n.cell ≡ cell_at p n.res (turn n.res) = one ∙ ap (λ (r : Res). cell_at p r (turn r)) (sym res_is) in (
+      record {
+        content = ap (λ (d : CellData). d.content) at;
+        clock = ap (λ (d : CellData). d.clock) at;
+        log = ap (λ (d : CellData). d.log) at;
+        room = omega (arith, all.0.room, room_is, ap (firsts p.ops) res_is);
+      },
+      rebuilt p turn before old new (ap (Rattle.std.proofs.Common.drop 1) names) (ap (Rattle.std.proofs.Common.drop 1) rooms) (ap (Rattle.std.proofs.Common.drop 1) datas) all.1,
+    )
+
+pub applied-next : (p : ProgramData) (k : ℕ) (op : OpKind) (old new : List Held) → IsValid p.machine → IsLegalProgram p → slice_get p.ops k ≡ Some op → AreCells p (nth p.ops k) (touched p.ops k) old → Applied p.machine k op old new → AreCells p (next_turn p k) (touched p.ops k) new
+applied-next p k op old new valid legal is are did =
+    let met = meets-cells p k op valid legal is in
+    let all : Each p (nth p.ops k) old = recursion_from_All (λ (h : Held). IsCell p h.res (nth p.ops k h.res) h.cell) old are.cells in
+    let names : map (λ (h : Held). h.res) old ≡ touches op = are.names ∙ touched_at p.ops k op is in
+    let own : map (λ (h : Held). data_of h.cell) old ≡ own_cells p k op = datas p (nth p.ops k) old all ∙ ap (map (λ (r : Res). cell_at p r (nth p.ops k r))) names in
+    let next : map (λ (h : Held). data_of h.cell) new ≡ map (λ (r : Res). cell_at p r (next_turn p k r)) (map (λ (h : Held). h.res) old) =
+    did.cells ∙ ap (acted_on p.machine k op) own ∙ sym met.leaves ∙ ap (map (λ (r : Res). cell_at p r (next_turn p k r))) (sym names) in
+    record {
+      names = did.names ∙ are.names;
+      cells = All-from_recursion (λ (h : Held). IsCell p h.res (next_turn p k h.res) h.cell) new (rebuilt p (next_turn p k) (nth p.ops k) old new did.names did.room next all);
+    }

@@ -1,0 +1,29 @@
+use Rattle.std.proofs.Common.{◌≡◌, ℕ, ◌+◌, ◌*◌, eqb, sym, subst, ◌∙◌, ap, refl}
+use mathlib.Core.Option.{none}
+use prog.Atomic.{either}
+use Rattle.op_table.specs.Touch.{nth}
+use Rattle.op_cells.specs.Numbering.{index_of}
+use Rattle.atomic_table.specs.Table.{Allows, step}
+use Rattle.claim_board.specs.Plays.{IsAtFirst, MayBegin, began}
+use Rattle.claim_board.specs.Rule.{Ruled}
+use Rattle.claim_board.proofs.Begins.{begin-allows}
+use Rattle.claim_board.proofs.steps.begin.Goals as goal
+
+pub compare_exchange-requires : goal.compare_exchange-requires
+compare_exchange-requires c =
+    let me = c.args.place.now.me in
+    let asks = c.requires.asks in
+    let key = c.args.top.now.key in
+    let slots = c.args.top.now.table_id.slots in (
+      c.requires.table.0,
+      c.requires.table.1,
+      subst (λ (z : ℕ × ℕ × ℕ). Allows (Ruled key) slots c.args.place.now.id me z.0 (λ n. either (eqb n z.1) z.2 n) (began (step slots z.0 z.1 z.2 none) me))
+          (λ i. (asks.3 i, sym asks.4 i, sym (asks.5 ∙ ap (λ (n : ℕ). n + (me.0.number + 1)) asks.4) i)) (begin-allows key slots c.args.place.now.id me asks.0 asks.1 asks.2),
+    )
+
+pub returns-clause-taken : goal.returns-clause-taken
+returns-clause-taken c is k r may at free =
+    (c.compare_exchange.ensures.2.0 is) k r (record { first = may.first; word = at }) (is ∙ free)
+
+pub returns-clause-looked : goal.returns-clause-looked
+returns-clause-looked c other = c.compare_exchange.ensures.2.1 other
