@@ -7,6 +7,7 @@ mod opening;
 mod plan;
 mod reading;
 
+pub use opening::opening_cells;
 pub use plan::Plan;
 
 #[cfg(test)]

@@ -49,7 +49,7 @@ pub(crate) fn copied(alloc: Global, chains: &[IonList]) -> Result<Vec<IonList>, 
 }
 
 /// The cells of all resources at the opening, with no room in their logs.
-pub(crate) fn opening_cells(
+pub fn opening_cells(
     alloc: Global,
     machine: &Machine,
     bits: u16,

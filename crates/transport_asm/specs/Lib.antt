@@ -12,3 +12,4 @@ pub mod Parts
 pub mod LineCursor
 pub mod ProgramText
 pub mod Example
+pub mod KindText

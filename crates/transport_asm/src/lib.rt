@@ -7,6 +7,7 @@ mod fences;
 mod gates;
 mod item_ops;
 mod items;
+mod kind_text;
 pub mod laws;
 mod lines;
 mod ops;

@@ -1,0 +1,9 @@
+pub mod Firsts
+pub mod Chains
+pub mod Starts
+pub mod NoFaults
+pub mod Going
+pub mod Stepping
+pub mod LegalLoads
+pub mod Limits
+pub mod Written

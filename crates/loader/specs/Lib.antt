@@ -1,0 +1,4 @@
+pub mod Refusal
+pub mod Marked
+pub mod Written
+pub mod FaultText

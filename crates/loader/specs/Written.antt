@@ -1,0 +1,20 @@
+-- Texts that are loaded as programs, and what a text can tell of an operation.
+use Rattle.std.specs.Prelude.{◌≡◌, ℕ, ◌≤◌, List, None, IfSome}
+use Rattle.qccd_machine.specs.Machine.{MachineData}
+use Rattle.op_table.specs.Run.{item_in}
+use Rattle.op_table.specs.declared.kinds.OpKind.{OpKind}
+use Rattle.claim_core.specs.Program.{ProgramData}
+use Rattle.transport_asm.specs.Slots.{greatest}
+use Rattle.transport_asm.specs.Texts.{RawData, Spells}
+use Rattle.loader.specs.Refusal.{on_machine, load_refusal}
+
+-- the text is read, and what it spells is loaded on the machine as this program
+pub record IsLoadedAs (m : MachineData) (text : List ℕ) (p : ProgramData) : Type 0 where
+  pub raw : RawData
+  pub spells : Spells text raw
+  pub not_refused : load_refusal m raw ≡ None
+  pub program : p ≡ on_machine m raw
+
+-- a line can tell the operation's item: its number is within the limit of numbers, and it has no condition
+abbrev pub IsPlain : OpKind → Type 0
+IsPlain op = IfSome (item_in op) (λ e. (e.0 ≤ greatest) × (e.1.cond ≡ None))
