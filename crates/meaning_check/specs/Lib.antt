@@ -1,0 +1,4 @@
+pub mod Verdict
+pub mod Least
+pub mod VerdictText
+pub mod Example
