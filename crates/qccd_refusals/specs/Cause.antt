@@ -2,6 +2,9 @@
 use Rattle.std.specs.Prelude.{ℕ, List}
 use Rattle.machine_text.specs.declared.fault.TextFault.{TextFault}
 use Rattle.qasm_reader.specs.declared.fault.QasmKind.{QasmKind}
+use Rattle.transport_asm.specs.declared.faults.AsmKind.{AsmKind}
+use Rattle.loader.specs.declared.faults.LoadFault.{LoadFault}
+use Rattle.meaning_check.specs.declared.verdict.Verdict.{Verdict}
 use Rattle.qccd_refusals.specs.declared.refusal.Refusal.{Refusal}
 use Rattle.qccd_refusals.specs.declared.refusal.Refusal.TheVariants as refusal
 
@@ -15,6 +18,9 @@ pub data Cause : Type 0 where
   Circuit : (at : ℕ) (kind : QasmKind) → Cause
   Shortage : (qubits slots : ℕ) → Cause
   TooLong : (done items ops : ℕ) → Cause
+  Asm : (line : ℕ) (kind : AsmKind) → Cause
+  Load : (fault : LoadFault) → Cause
+  NotSame : (verdict : Verdict) → Cause
   NoMemory : Cause
 
 -- the cause of a refusal of the code
@@ -27,6 +33,9 @@ cause_of (refusal.Machine fault) = Machine fault
 cause_of (refusal.Circuit at kind) = Circuit at kind
 cause_of (refusal.Shortage qubits slots) = Shortage qubits slots
 cause_of (refusal.TooLong done items ops) = TooLong done items ops
+cause_of (refusal.Asm line kind) = Asm line kind
+cause_of (refusal.Load fault) = Load fault
+cause_of (refusal.NotSame verdict) = NotSame verdict
 cause_of refusal.NoMemory = NoMemory
 
 -- the status with which the program ends
@@ -39,4 +48,7 @@ status_of (Machine fault) = 6
 status_of (Circuit at kind) = 7
 status_of (Shortage qubits slots) = 8
 status_of (TooLong done items ops) = 9
+status_of (Asm line kind) = 10
+status_of (Load fault) = 10
+status_of (NotSame verdict) = 11
 status_of NoMemory = 12

@@ -3,7 +3,10 @@ use Rattle.std.specs.Prelude.{ℕ, List, [], ◌∷◌, codes, decimal}
 use Rattle.std.specs.List.{concat}
 use Rattle.machine_text.specs.FaultText.{text_fault_text}
 use Rattle.qasm_reader.specs.Kind.{kind_text}
-use Rattle.qccd_refusals.specs.Cause.{Cause, Words, Read, Write, TooLarge, Machine, Circuit, Shortage, TooLong, NoMemory}
+use Rattle.transport_asm.specs.KindText.{asm_kind_text}
+use Rattle.loader.specs.FaultText.{load_fault_text}
+use Rattle.meaning_check.specs.VerdictText.{verdict_text}
+use Rattle.qccd_refusals.specs.Cause.{Cause, Words, Read, Write, TooLarge, Machine, Circuit, Shortage, TooLong, Asm, Load, NotSame, NoMemory}
 
 -- the forms that the words may have
 abbrev pub usage : List ℕ
@@ -29,4 +32,8 @@ message_of (Shortage qubits slots) =
 message_of (TooLong done items ops) =
     concat (codes "qccd: too long: " ∷ decimal done ∷ codes " of " ∷ decimal items ∷ codes " items took "
     ∷ decimal ops ∷ codes " operations, the limit is 4194304\n" ∷ [])
+message_of (Asm line kind) =
+    concat (codes "qccd: program: line " ∷ decimal line ∷ codes ": " ∷ asm_kind_text kind ∷ codes "\n" ∷ [])
+message_of (Load fault) = concat (codes "qccd: program: " ∷ load_fault_text fault ∷ codes "\n" ∷ [])
+message_of (NotSame verdict) = concat (codes "qccd: not the same: " ∷ verdict_text verdict ∷ codes "\n" ∷ [])
 message_of NoMemory = codes "qccd: no memory\n"

@@ -5,10 +5,13 @@ ghost use Rattle.qccd_io.specs.Sends.{Sends};
 ghost use Rattle.qccd_refusals.specs.Cause.{cause_of, status_of};
 ghost use Rattle.qccd_refusals.specs.Message.{message_of};
 
+use loader::LoadFault;
 use machine_text::TextFault;
+use meaning_check::Verdict;
 use qasm_reader::QasmKind;
 use qccd_base::number_text;
 use qccd_io::{Failed, Sink, send_all};
+use transport_asm::AsmKind;
 
 const USAGE: &[u8] = b"\
 usage: qccd run MACHINE CIRCUIT [--workers N] [--swap ion|gate]
@@ -38,6 +41,12 @@ pub enum Refusal<'a> {
     /// The program grows past its limit of 4,194,304 operations: after `done` of the circuit's items it has
     /// so many that the next one might not fit.
     TooLong { done: u32, items: u32, ops: u32 },
+    /// The program's text is refused for what stands on this line, counted from 1.
+    Asm { line: u32, kind: AsmKind },
+    /// What the program's text spells is no program of the machine.
+    Load { fault: LoadFault },
+    /// The program does not implement the circuit.
+    NotSame { verdict: Verdict },
     /// Memory ran out.
     NoMemory,
 }
@@ -56,6 +65,9 @@ impl Refusal<'_> {
             Refusal::Circuit { .. } => 7,
             Refusal::Shortage { .. } => 8,
             Refusal::TooLong { .. } => 9,
+            Refusal::Asm { .. } => 10,
+            Refusal::Load { .. } => 10,
+            Refusal::NotSame { .. } => 11,
             Refusal::NoMemory => 12,
         }
     }
@@ -116,6 +128,24 @@ pub fn tell<E: Sink>(err: &mut E, refusal: &Refusal<'_>) -> Result<(), Failed>
                 number_text(ops.into()).as_bytes(),
                 b" operations, the limit is 4194304\n",
             ],
+        ),
+        Refusal::Asm { line, kind } => send_all(
+            err,
+            &[
+                b"qccd: program: line ",
+                number_text(line.into()).as_bytes(),
+                b": ",
+                kind.text().as_bytes(),
+                b"\n",
+            ],
+        ),
+        Refusal::Load { fault } => send_all(
+            err,
+            &[b"qccd: program: ", fault.text().as_bytes(), b"\n"],
+        ),
+        Refusal::NotSame { verdict } => send_all(
+            err,
+            &[b"qccd: not the same: ", verdict.text().as_bytes(), b"\n"],
         ),
         Refusal::NoMemory => send_all(err, &[b"qccd: no memory\n"]),
     }

@@ -1,12 +1,16 @@
 //! Each message, whole and cut short.
 
 use crate::refusal::{Refusal, tell};
+use loader::LoadFault;
 use machine_text::{Part, Spot, TextFault};
+use meaning_check::Verdict;
+use op_table::Why;
 use qasm_reader::{Many, QasmKind};
-use qccd_base::SegId;
+use qccd_base::{SegId, TrapId};
 use qccd_io::{Failed, MemSink};
 use qccd_machine::MachineFault;
 use std::test::Fail;
+use transport_asm::AsmKind;
 
 #[test]
 fn tells(rt: HostRuntime) -> Result<(), Fail> {
@@ -20,6 +24,12 @@ fn tells(rt: HostRuntime) -> Result<(), Fail> {
     };
     let missing = TextFault::MissingField { spot };
     let taken = TextFault::Machine(MachineFault::EndTaken { seg: SegId(2) });
+    let astray = LoadFault::Illegal {
+        op: 12,
+        why: Why::WrongQubit,
+    };
+    let overfull = LoadFault::StartOverfull { trap: TrapId(3) };
+    let other = Verdict::Differs { op: 40, item: 7 };
     let table = [
         (
             Refusal::Words,
@@ -74,6 +84,36 @@ fn tells(rt: HostRuntime) -> Result<(), Fail> {
             },
             9,
             "qccd: too long: 4 of 70 items took 4194300 operations, the limit is 4194304\n",
+        ),
+        (
+            Refusal::Asm {
+                line: 15,
+                kind: AsmKind::TooMany,
+            },
+            10,
+            "qccd: program: line 15: too many\n",
+        ),
+        (
+            Refusal::Load { fault: astray },
+            10,
+            "qccd: program: operation 12: another qubit stands there\n",
+        ),
+        (
+            Refusal::Load { fault: overfull },
+            10,
+            "qccd: program: trap T3 starts above its capacity\n",
+        ),
+        (
+            Refusal::NotSame {
+                verdict: Verdict::Sizes,
+            },
+            11,
+            "qccd: not the same: numbers of qubits or bits differ\n",
+        ),
+        (
+            Refusal::NotSame { verdict: other },
+            11,
+            "qccd: not the same: operation 40 differs from item 7\n",
         ),
         (Refusal::NoMemory, 12, "qccd: no memory\n"),
     ];

@@ -2,8 +2,10 @@
 //! its status. The script has lines of these forms, those of a command's files behind it:
 //!
 //! - `$ WORDS`: a command
-//! - `a|TEXT`, `m|TEXT`: a further line of its file `a` or `m`; without a bar, the file is there
+//! - `a|TEXT`, `m|TEXT`, `p|TEXT`: a further line of its file `a`, `m` or `p`; without a bar, the file is there
 //! - `a*N|TEXT|TEXT`: these lines, N times
+//! - `a.|TEXT`: a further text that no line feed ends
+//! - `p<`: the file `p` is what the command before wrote
 #![tactic(auto)]
 
 ghost use Rattle.std.specs.Prelude.{Some, IfOk};
@@ -27,6 +29,9 @@ struct Row {
     words: String,
     circuit: Option<Vec<u8>>,
     machine: Option<Vec<u8>>,
+    program: Option<Vec<u8>>,
+    /// Whether the program's file is what the command before wrote.
+    chained: bool,
 }
 
 /// Puts these lines behind a file's text so many times.
@@ -47,10 +52,21 @@ fn put_lines(
     Ok(())
 }
 
+/// Puts a text behind a file's text.
+fn put_text(alloc: Global, file: &mut Option<Vec<u8>>, more: &str) -> Result<(), NoMemory> {
+    let mut text = file.take().unwrap_or(Vec::new(alloc));
+    text.extend_from_slice(more.as_bytes())?;
+    *file = Some(text);
+    Ok(())
+}
+
 /// Takes up a line of a command's files: what stands behind the file's name.
 fn take_line(alloc: Global, file: &mut Option<Vec<u8>>, line: &str) -> Result<(), NoMemory> {
     if let Some(text) = line.strip_prefix("|") {
         return put_lines(alloc, file, text, 1);
+    }
+    if let Some(text) = line.strip_prefix(".|") {
+        return put_text(alloc, file, text);
     }
     if let Some((times, lines)) = line.strip_prefix("*").and_then(|rest| rest.split_once("|")) {
         return put_lines(
@@ -63,6 +79,24 @@ fn take_line(alloc: Global, file: &mut Option<Vec<u8>>, line: &str) -> Result<()
     put_lines(alloc, file, "", 0)
 }
 
+/// Takes up a line behind a command.
+fn take(alloc: Global, row: &mut Row, line: &str) -> Result<(), NoMemory> {
+    if line == "p<" {
+        row.chained = true;
+        return Ok(());
+    }
+    if let Some(rest) = line.strip_prefix("a") {
+        return take_line(alloc, &mut row.circuit, rest);
+    }
+    if let Some(rest) = line.strip_prefix("m") {
+        return take_line(alloc, &mut row.machine, rest);
+    }
+    match line.strip_prefix("p") {
+        Some(rest) => take_line(alloc, &mut row.program, rest),
+        None => Ok(()),
+    }
+}
+
 /// The rows of the script.
 fn rows_of(alloc: Global, script: &str) -> Result<Vec<Row>, NoMemory> {
     let mut rows: Vec<Row> = Vec::new(alloc);
@@ -72,13 +106,11 @@ fn rows_of(alloc: Global, script: &str) -> Result<Vec<Row>, NoMemory> {
                 words: String::from_str(alloc, words)?,
                 circuit: None,
                 machine: None,
+                program: None,
+                chained: false,
             })?;
         } else if let Some(row) = rows.last_mut() {
-            if let Some(rest) = line.strip_prefix("a") {
-                take_line(alloc, &mut row.circuit, rest)?;
-            } else if let Some(rest) = line.strip_prefix("m") {
-                take_line(alloc, &mut row.machine, rest)?;
-            }
+            take(alloc, row, line)?;
         }
     }
     Ok(rows)
@@ -89,6 +121,7 @@ fn shelf_of(
     alloc: Global,
     circuit: Option<Vec<u8>>,
     machine: Option<Vec<u8>>,
+    program: Option<Vec<u8>>,
 ) -> Result<MemShelf, NoMemory>
     ensures { IfOk result (λ s. NoneIsOut (Some (holding_of s))) }
 {
@@ -98,6 +131,9 @@ fn shelf_of(
     }
     if let Some(text) = machine {
         files.push((String::from_str(alloc, "m")?, text))?;
+    }
+    if let Some(text) = program {
+        files.push((String::from_str(alloc, "p")?, text))?;
     }
     Ok(MemShelf::of(files, Vec::new(alloc)))
 }
@@ -111,22 +147,37 @@ fn words_of(alloc: Global, line: &str) -> Result<Vec<String>, NoMemory> {
     Ok(words)
 }
 
-/// Does the row's command, and prints the command and what came of it.
+/// Does the row's command, and prints the command and what came of it. What the command wrote is put in the place
+/// of what the one before wrote.
 fn show<R: AllocGlobal + Threads + Sync, W: Write>(
     rt: &R,
     row: Row,
+    wrote: &mut Vec<u8>,
     shown: &mut W,
 ) -> Result<bool, NoMemory> {
     let alloc = rt.alloc();
-    let words = words_of(alloc, row.words.as_str())?;
-    let mut shelf = shelf_of(alloc, row.circuit, row.machine)?;
+    let Row {
+        words: line,
+        circuit,
+        machine,
+        program,
+        chained,
+    } = row;
+    let words = words_of(alloc, line.as_str())?;
+    let program = if chained {
+        Some(Vec::from_slice(alloc, wrote.as_slice())?)
+    } else {
+        program
+    };
+    let mut shelf = shelf_of(alloc, circuit, machine, program)?;
     let mut out = MemSink::of(alloc, ROOM, ROOM, Vec::new(alloc))?;
     let mut err = MemSink::of(alloc, ROOM, ROOM, Vec::new(alloc))?;
     let status = run(rt, alloc, &words, &mut shelf, &mut out, &mut err, &NoPost);
-    let told = writeln!(shown, "$ {}", row.words).is_ok()
+    let told = writeln!(shown, "$ {line}").is_ok()
         && shown.write_all(out.bytes()).is_ok()
         && shown.write_all(err.bytes()).is_ok()
         && writeln!(shown, "status {}", status.0).is_ok();
+    *wrote = Vec::from_slice(alloc, out.bytes())?;
     Ok(told)
 }
 
@@ -137,8 +188,9 @@ fn show_all<R: AllocGlobal + Threads + Sync, W: Write>(
     shown: &mut W,
 ) -> Result<bool, NoMemory> {
     let mut told = true;
+    let mut wrote = Vec::new(rt.alloc());
     for row in rows_of(rt.alloc(), script)? {
-        told = show(rt, row, shown)? && told;
+        told = show(rt, row, &mut wrote, shown)? && told;
     }
     Ok(told)
 }

@@ -13,26 +13,27 @@ use Rattle.qasm_reader.specs.Reading.{IsCircuitOf}
 use Rattle.qasm_reader.proofs.Answered.{keeps_the_rule}
 use Rattle.claim_core.specs.Legal.{IsLegalProgram}
 use Rattle.claim_core.specs.Program.{ProgramData}
-use Rattle.claim_core.proofs.Meets.{run-meets}
-use Rattle.claim_core.proofs.Runs.{bounds-kept}
 use Rattle.compiler.specs.Chosen.{chosen, chosen_first, chosen_long}
 use Rattle.compiler.specs.Compiled.{IsProgramFor}
 use Rattle.compiler.proofs.Answering.{worst-small}
 use Rattle.compiler.proofs.Choosing.{chosen_implements, chosen_legal, chosen_short, one_more_short}
+use Rattle.meaning_check.specs.Verdict.{IsVerdict}
+use Rattle.meaning_check.specs.declared.verdict.Verdict.TheVariants.{Same}
+use Rattle.meaning_check.proofs.Implementing.{implements_from}
 use Rattle.rehearsal.specs.Generated.{generated}
 use Rattle.rehearsal.proofs.Circuits.{generated_circuit}
 use Rattle.tracer.specs.Report.{report_text}
 use Rattle.tracer.specs.Summary.{summary_text}
-use Rattle.tracer.proofs.Listed.{program-listed, program-bounds}
-use Rattle.qccd_words.specs.Words.{AskedMachine, OfPreset, OfFile, Asked, AskedRun, AskedRehearse, request_of, HasCapacity}
-use Rattle.qccd_words.proofs.Capacities.{asked_capacity, rehearse_capacity, rehearse_few}
+use Rattle.qccd_words.specs.Words.{AskedMachine, OfPreset, OfFile, Asked, AskedRun, AskedCompile, AskedExec, AskedCheck, AskedRehearse, request_of, HasCapacity}
+use Rattle.qccd_words.proofs.Capacities.{request-limits}
 use Rattle.qccd_refusals.specs.Cause.{Cause, Write, status_of}
 use Rattle.qccd_top.specs.Stage.{Gives, ◌>>=◌}
 use Rattle.qccd_top.specs.Stages.{MachineIn, CircuitIn}
-use Rattle.qccd_top.specs.Means.{CompiledIn, TextOf, TextFor}
+use Rattle.qccd_top.specs.Means.{CompiledIn, LoadedIn, CheckedIn, TextOf, TextFor}
 use Rattle.qccd_top.specs.Call.{Call}
 use Rattle.qccd_top.specs.Done.{IsDone, IsCauseOf}
-use Rattle.qccd_top.specs.Headline.{AsksRun, AsksRehearsal, IsMeant, IsFaithful, IsRunOf, IsReported, IsCutReport, IsRehearsalOf, IsSummarized}
+use Rattle.qccd_top.specs.Headline.{AsksRun, AsksCompile, AsksExec, AsksCheck, AsksRehearsal, RunsWell, IsMeant, IsFaithful, IsCompiled, IsLoaded, IsChecked, IsReported, IsCutReport, IsProgramWritten, IsExecuted, IsSameTold, IsRehearsalOf, IsSummarized}
+use Rattle.qccd_top.proofs.Loaded.{loaded_means, runs_well}
 
 -- the operations for all items are few where those before each item are
 few_operations : (c : CircuitData) (m : MachineData) (mode : Mode) (p : ProgramData) → IsCircuit c → IsValid m → IsProgramFor c m mode p → length (chosen c m mode).ops ≤ 4194304
@@ -52,13 +53,9 @@ unfolding chosen_first
 faithful c m mode p whole valid is =
     let legal : IsLegalProgram (chosen c m mode) = chosen_legal c m mode whole valid is.fits (few_operations c m mode p whole valid is) in
     record {
-      valid = valid;
       whole = whole;
       implements = chosen_implements c m mode whole valid is.fits;
-      bounds = bounds-kept (chosen c m mode) legal;
-      listed_run = (program-listed (chosen c m mode) legal).run;
-      listed_bounds = program-bounds (chosen c m mode) legal;
-      operands = run-meets (chosen c m mode) legal.run;
+      runs_well = runs_well m (chosen c m mode) valid refl legal;
     }
 
 -- a machine that a word names is valid
@@ -87,33 +84,44 @@ accepted c m mode whole valid fits short = record { fits = fits; room = room; is
         let more : (count + 1) * worst_of m ≡ count * worst_of m + worst_of m = suc_times count (worst_of m) in
         omega (arith, long, next, more, short)
 
--- what is compiled is the program of a circuit on a machine
-compiled : (call : Call) (word : AskedMachine) (name : List ℕ) (mode : Mode) (p : ProgramData) → CompiledIn call.told word name mode (Gives p)
-    → (m : MachineData) × (c : CircuitData) × MachineIn call.told word (Gives m) × CircuitIn call.told name (Gives c) × IsProgramFor c m mode p
+-- what is compiled is the program that is meant
+pub compiled : (told : Option Holding) (word : AskedMachine) (name : List ℕ) (mode : Mode) (p : ProgramData) → HasCapacity word
+    → CompiledIn told word name mode (Gives p) → IsCompiled told word name mode p
 unfolding ◌>>=◌
-compiled call word name mode p (m, machine, (c, circuit, is)) = (m, c, machine, circuit, is)
+compiled told word name mode p within (m, machine, (c, circuit, is)) =
+    let (drawn, reads) = read_in told name c circuit in
+    let done = faithful c m mode p (keeps_the_rule drawn c reads) (valid_in told word m within machine) is in
+    let meant : IsMeant told word name mode m c p = record { machine_in = machine; circuit_in = circuit; slots = is.fits; chosen = is.is_chosen } in
+    record { machine = m; circuit = c; meant = meant; faithful = subst (IsFaithful m c) (sym is.is_chosen) done }
 
--- a text that a run means is the report of a program that does the circuit
-report_of : (call : Call) (asks : AsksRun call.words) (text : List ℕ) → TextOf call.told (AskedRun asks.word asks.name asks.workers asks.mode) (Gives text)
-    → (program : ProgramData) × IsRunOf call program × (text ≡ report_text program)
+-- what is loaded is the program that the file holds
+loaded : (told : Option Holding) (word : AskedMachine) (name : List ℕ) (p : ProgramData) → HasCapacity word → LoadedIn told word name (Gives p) → IsLoaded told word name p
 unfolding ◌>>=◌
-report_of call asks text (p, means, report) =
-    let (m, c, machine, circuit, is) = compiled call asks.word asks.name asks.mode p means in
-    let (drawn, reads) = read_in call.told asks.name c circuit in
-    let valid = valid_in call.told asks.word m (asked_capacity call.words asks.word asks.name asks.workers asks.mode asks.asked) machine in
-    let done = faithful c m asks.mode p (keeps_the_rule drawn c reads) valid is in
-    let meant : IsMeant call m c p = record {
-      word = asks.word;
-      name = asks.name;
-      workers = asks.workers;
-      mode = asks.mode;
-      asked = asks.asked;
+loaded told word name p within (m, machine, given) =
+    let (held, legal) = loaded_means told name m p given in
+    record { machine = m; machine_in = machine; held = held; runs_well = runs_well m p (valid_in told word m within machine) held.on legal }
+
+-- a program with the verdict that it is the same does the circuit
+same_faithful : (c : CircuitData) (m : MachineData) (p : ProgramData) → IsCircuit c → RunsWell m p → IsVerdict c p Same → IsFaithful m c p
+same_faithful c m p whole well same = record { whole = whole; implements = implements_from c p m well.legal well.on same.0 same.1; runs_well = well }
+
+-- what is checked is the program that the file holds, and does the circuit
+checked : (told : Option Holding) (word : AskedMachine) (name program_name : List ℕ) (p : ProgramData) → HasCapacity word
+    → CheckedIn told word name program_name (Gives p) → IsChecked told word name program_name p
+unfolding ◌>>=◌
+checked told word name program_name p within (m, machine, (c, circuit, (q, given, (passed, same, is)))) =
+    let (drawn, reads) = read_in told name c circuit in
+    let (held, legal) = loaded_means told program_name m q given in
+    let well = runs_well m q (valid_in told word m within machine) held.on legal in
+    let done : IsChecked told word name program_name q = record {
+      machine = m;
+      circuit = c;
       machine_in = machine;
       circuit_in = circuit;
-      slots = is.fits;
-      chosen = is.is_chosen;
+      held = held;
+      faithful = same_faithful c m q (keeps_the_rule drawn c reads) well same;
     } in
-    (p, record { machine = m; circuit = c; meant = meant; faithful = subst (IsFaithful m c) (sym is.is_chosen) done }, report)
+    subst (IsChecked told word name program_name) (sym is) done
 
 -- what words mean that ask for this
 meaning : (call : Call) (asked : Asked) (text : List ℕ) → request_of call.words ≡ Some asked → TextFor call.told call.words (Gives text) → TextOf call.told asked (Gives text)
@@ -121,21 +129,61 @@ unfolding ◌>>=◌
 meaning call asked text reading (other, also, means) =
     subst (λ (a : Asked). TextOf call.told a (Gives text)) (same_Some other asked (sym also ∙ reading)) means
 
-written_report : (call : Call) (text : List ℕ) → AsksRun call.words → TextFor call.told call.words (Gives text) → (program : ProgramData) × IsRunOf call program × (text ≡ report_text program)
-written_report call text asks means =
-    report_of call asks text (meaning call (AskedRun asks.word asks.name asks.workers asks.mode) text asks.asked means)
+-- a text that a run means is the report of the program that is meant
+report_of : (call : Call) (asks : AsksRun call.words) (text : List ℕ) → TextFor call.told call.words (Gives text)
+    → (program : ProgramData) × IsCompiled call.told asks.word asks.name asks.mode program × (text ≡ report_text program)
+unfolding ◌>>=◌
+report_of call asks text means =
+    let run = AskedRun asks.word asks.name asks.workers asks.mode in
+    let (p, given, report) = meaning call run text asks.asked means in
+    (p, compiled call.told asks.word asks.name asks.mode p (request-limits call.words run asks.asked) given, report)
 
-pub headline : (call : Call) → AsksRun call.words → IsDone call → IsReported call
+pub headline : (call : Call) (asks : AsksRun call.words) → IsDone call → IsReported call asks
 headline call asks done =
-    let (program, is_run, text) = written_report call done.text asks done.means in
-    record { program = program; is_run = is_run; written = done.written ∙ ap (appended call.out.old) text }
+    let (program, is, text) = report_of call asks done.text done.means in
+    record { program = program; is_compiled = is; written = done.written ∙ ap (appended call.out.old) text }
 
 -- with status 4 a prefix of it was taken
-pub cut : (call : Call) (cause : Cause) → AsksRun call.words → IsCauseOf call cause → status_of cause ≡ 4 → IsCutReport call
-cut call Write asks rests four =
-    let (program, is_run, text) = written_report call rests.text asks rests.means in
-    record { program = program; is_run = is_run; prefix = subst (λ (t : List ℕ). TookPrefix call.out.old call.out.new t) text rests.prefix; rose = rests.rose }
-cut call cause asks rests four = absurd (omega (arith, four))
+pub cut : (call : Call) (asks : AsksRun call.words) (cause : Cause) → IsCauseOf call cause → status_of cause ≡ 4 → IsCutReport call asks
+cut call asks Write rests four =
+    let (program, is, text) = report_of call asks rests.text rests.means in
+    record { program = program; is_compiled = is; prefix = subst (λ (t : List ℕ). TookPrefix call.out.old call.out.new t) text rests.prefix; rose = rests.rose }
+cut call asks cause rests four = absurd (omega (arith, four))
+
+-- ---- other commands
+
+pub program_written : (call : Call) (asks : AsksCompile call.words) → IsDone call → IsProgramWritten call asks
+unfolding ◌>>=◌
+program_written call asks done =
+    let compile = AskedCompile asks.word asks.name asks.mode in
+    let (p, given, text) = meaning call compile done.text asks.asked done.means in
+    record {
+      program = p;
+      is_compiled = compiled call.told asks.word asks.name asks.mode p (request-limits call.words compile asks.asked) given;
+      written = done.written ∙ ap (appended call.out.old) text;
+    }
+
+pub executed : (call : Call) (asks : AsksExec call.words) → IsDone call → IsExecuted call asks
+unfolding ◌>>=◌
+executed call asks done =
+    let exec = AskedExec asks.word asks.name asks.workers in
+    let (p, given, text) = meaning call exec done.text asks.asked done.means in
+    record {
+      program = p;
+      is_loaded = loaded call.told asks.word asks.name p (request-limits call.words exec asks.asked) given;
+      written = done.written ∙ ap (appended call.out.old) text;
+    }
+
+pub same_told : (call : Call) (asks : AsksCheck call.words) → IsDone call → IsSameTold call asks
+unfolding ◌>>=◌
+same_told call asks done =
+    let check = AskedCheck asks.word asks.name asks.program_name in
+    let (p, given, text) = meaning call check done.text asks.asked done.means in
+    record {
+      program = p;
+      is_checked = checked call.told asks.word asks.name asks.program_name p (request-limits call.words check asks.asked) given;
+      written = done.written ∙ ap (appended call.out.old) text;
+    }
 
 -- ---- a rehearsal
 
@@ -145,8 +193,9 @@ summary_of : (call : Call) (asks : AsksRehearsal call.words) (text : List ℕ)
     → (m : MachineData) × (p : ProgramData) × IsRehearsalOf call m p asks × (text ≡ summary_text p asks.number asks.items)
 unfolding ◌>>=◌
 summary_of call asks text (p, (m, machine, is), summary) =
-    let few = rehearse_few call.words asks.number asks.qubits asks.items asks.word asks.workers asks.asked in
-    let valid = valid_in call.told asks.word m (rehearse_capacity call.words asks.number asks.qubits asks.items asks.word asks.workers asks.asked) machine in
+    let limits = request-limits call.words (AskedRehearse asks.number asks.qubits asks.items asks.word asks.workers) asks.asked in
+    let few = limits.1 in
+    let valid = valid_in call.told asks.word m limits.0 machine in
     let c = generated asks.number asks.qubits asks.items in
     let whole = generated_circuit asks.number asks.qubits asks.items few.1 few.2 few.3 in
     let done = faithful c m IonSwap p whole valid is in

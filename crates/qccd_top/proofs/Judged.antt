@@ -2,12 +2,13 @@
 use Rattle.std.proofs.Common.{◌≡◌, ◌↔◌, ℕ, List, ◌⊎◌, inl, inr, Option, None, Result, Err, sym, ◌∙◌, ap, arith}
 use Rattle.qccd_io.specs.Shelf.{Holding}
 use Rattle.qccd_base.specs.declared.names.Mode.{Mode}
-use Rattle.qccd_words.specs.Words.{AskedMachine, OfPreset, OfFile, Asked, AskedRun, AskedRehearse, request_of}
+use Rattle.qccd_words.specs.Words.{AskedMachine, OfPreset, OfFile, Asked, AskedRun, AskedCompile, AskedExec, AskedCheck, AskedRehearse, request_of}
+use Rattle.qccd_machine.specs.Machine.{MachineData}
 use Rattle.qccd_refusals.specs.Cause.{Cause, Words, status_of}
-use Rattle.qccd_top.specs.declared.limits.TheConstants.{CIRCUIT_LIMIT, MACHINE_LIMIT}
+use Rattle.qccd_top.specs.declared.limits.TheConstants.{CIRCUIT_LIMIT, MACHINE_LIMIT, PROGRAM_LIMIT}
 use Rattle.qccd_top.specs.Stage.{Stage, Refuses, ◌>>=◌, Just}
-use Rattle.qccd_top.specs.Stages.{FileIn, MachineOf, MachineIn, CircuitOf, CircuitIn}
-use Rattle.qccd_top.specs.Means.{CompiledIn, RehearsedIn, TextOf, TextFor}
+use Rattle.qccd_top.specs.Stages.{FileIn, MachineOf, MachineIn, CircuitOf, CircuitIn, RawOf, RawIn, LoadedOn, ProgramIn}
+use Rattle.qccd_top.specs.Means.{CompiledIn, LoadedIn, CheckedIn, RehearsedIn, TextOf, TextFor}
 use Rattle.qccd_top.specs.Call.{Call}
 use Rattle.qccd_top.specs.Done.{IsCauseOf}
 
@@ -32,12 +33,29 @@ takes-compiled told machine circuit mode =
     takes-then _ _ (takes-machine told machine) (λ m.
     takes-then _ _ (takes-circuit told circuit) (λ c why. why))
 
+takes-program : (told : Option Holding) (m : MachineData) (name : List ℕ) → Takes (ProgramIn told m name)
+takes-program told m name =
+    takes-then (RawIn told name) (LoadedOn m) (takes-then (FileIn told name PROGRAM_LIMIT) RawOf (λ why. why) (λ text why. why)) (λ raw why. why)
+
+takes-loaded : (told : Option Holding) (machine : AskedMachine) (program : List ℕ) → Takes (LoadedIn told machine program)
+takes-loaded told machine program = takes-then _ _ (takes-machine told machine) (λ m. takes-program told m program)
+
+takes-checked : (told : Option Holding) (machine : AskedMachine) (circuit program : List ℕ) → Takes (CheckedIn told machine circuit program)
+takes-checked told machine circuit program =
+    takes-then _ _ (takes-machine told machine) (λ m.
+    takes-then _ _ (takes-circuit told circuit) (λ c.
+    takes-then _ _ (takes-program told m program) (λ p.
+    takes-then _ _ (λ why. why) (λ passed why. why))))
+
 takes-rehearsed : (told : Option Holding) (machine : AskedMachine) (number qubits items : ℕ) → Takes (RehearsedIn told machine number qubits items)
 takes-rehearsed told machine number qubits items = takes-then _ _ (takes-machine told machine) (λ m why. why)
 
 -- what words ask for is not refused for the words
 takes-text : (told : Option Holding) (asked : Asked) → Takes (TextOf told asked)
 takes-text told (AskedRun machine circuit workers mode) = takes-then _ _ (takes-compiled told machine circuit mode) (λ p why. why)
+takes-text told (AskedCompile machine circuit mode) = takes-then _ _ (takes-compiled told machine circuit mode) (λ p why. why)
+takes-text told (AskedExec machine program workers) = takes-then _ _ (takes-loaded told machine program) (λ p why. why)
+takes-text told (AskedCheck machine circuit program) = takes-then _ _ (takes-checked told machine circuit program) (λ p why. why)
 takes-text told (AskedRehearse number qubits items machine workers) = takes-then _ _ (takes-rehearsed told machine number qubits items) (λ p why. why)
 
 no_reading : (told : Option Holding) (words : List (List ℕ)) → TextFor told words (Refuses Words) → request_of words ≡ None

@@ -1,5 +1,5 @@
 -- A stage has one answer, where the shelf tells what it holds.
-use Rattle.std.proofs.Common.{◌≡◌, ℕ, ◌-◌, ◌<◌, ◌≤◌, ◌⊎◌, inl, inr, List, length, Option, Some, None, refl, sym, ◌∙◌, ap, subst, arith}
+use Rattle.std.proofs.Common.{◌≡◌, ◌≢◌, ℕ, ◌-◌, ◌<◌, ◌≤◌, ◌⊎◌, inl, inr, List, length, Option, Some, None, refl, sym, ◌∙◌, ap, subst, arith}
 use Rattle.qccd_base.specs.declared.names.Mode.{Mode}
 use Rattle.qccd_base.specs.declared.names.Mode.TheVariants.{IonSwap}
 use Rattle.qccd_io.specs.Shelf.{Holding}
@@ -12,11 +12,18 @@ use Rattle.claim_core.specs.Program.{ProgramData}
 use Rattle.rehearsal.specs.Generated.{generated}
 use Rattle.compiler.specs.Chosen.{chosen_long}
 use Rattle.compiler.proofs.Answering.{one_too_long}
-use Rattle.qccd_words.specs.Words.{AskedMachine, OfPreset, OfFile, Asked, AskedRun, AskedRehearse}
-use Rattle.qccd_refusals.specs.Cause.{Cause, Words, Read, TooLarge, Machine, Circuit, Shortage, TooLong}
-use Rattle.qccd_top.specs.declared.limits.TheConstants.{CIRCUIT_LIMIT, MACHINE_LIMIT}
-use Rattle.qccd_top.specs.Stages.{WordsOf, FileIn, MachineOf, MachineIn, CircuitOf, CircuitIn, Compiled}
-use Rattle.qccd_top.specs.Means.{CompiledIn, RehearsedIn, TextOf, TextFor}
+use Rattle.std.proofs.lemmas.Option.{same_Some}
+use Rattle.transport_asm.specs.Texts.{RawData}
+use Rattle.transport_asm.specs.Lines as lines
+use Rattle.transport_asm.proofs.Answered as program_texts
+use Rattle.loader.specs.Refusal.{load_refusal}
+use Rattle.meaning_check.specs.declared.verdict.Verdict.TheVariants.{Same}
+use Rattle.meaning_check.proofs.Verdicts.{one_at_most}
+use Rattle.qccd_words.specs.Words.{AskedMachine, OfPreset, OfFile, Asked, AskedRun, AskedCompile, AskedExec, AskedCheck, AskedRehearse}
+use Rattle.qccd_refusals.specs.Cause.{Cause, Words, Read, TooLarge, Machine, Circuit, Shortage, TooLong, Asm, Load, NotSame}
+use Rattle.qccd_top.specs.declared.limits.TheConstants.{CIRCUIT_LIMIT, MACHINE_LIMIT, PROGRAM_LIMIT}
+use Rattle.qccd_top.specs.Stages.{WordsOf, FileIn, MachineOf, MachineIn, CircuitOf, CircuitIn, Compiled, RawOf, RawIn, LoadedOn, ProgramIn, SameAs}
+use Rattle.qccd_top.specs.Means.{CompiledIn, LoadedIn, CheckedIn, RehearsedIn, TextOf, TextFor}
 use Rattle.qccd_top.specs.Stage.{Answer, Gives, Refuses, Fetches, Stage, ◌>>=◌, Just}
 
 pub record IsSingle {A : Type 0} (stage : Stage A) : Type 0 where
@@ -123,7 +130,7 @@ single-circuit_of text = record { given = λ c d is also. one_circuit text c d i
     apart m (Circuit a k) first second = not_both text m a k first second
     apart m c first second = second
 
-single-circuit : (held : Holding) (name : List ℕ) → IsSingle (CircuitIn (Some held) name)
+pub single-circuit : (held : Holding) (name : List ℕ) → IsSingle (CircuitIn (Some held) name)
 single-circuit held name = single-then (FileIn (Some held) name CIRCUIT_LIMIT) CircuitOf (single-file held name CIRCUIT_LIMIT) single-circuit_of
 
 single-program : (c : CircuitData) (m : MachineData) (mode : Mode) → IsSingle (Compiled c m mode)
@@ -152,7 +159,61 @@ single-program c m mode = record { given = λ p q is also. is.is_chosen ∙ sym 
         let is : chosen_long c m mode d ≡ k = second.operations in omega arith
     apart p x first second = second
 
-single-compiled : (held : Holding) (machine : AskedMachine) (circuit : List ℕ) (mode : Mode) → IsSingle (CompiledIn (Some held) machine circuit mode)
+single-raw_of : (text : List ℕ) → IsSingle (RawOf text)
+single-raw_of text = record { given = λ a b is also. program_texts.one_raw text a b is also; refused = refused; not_both = apart }
+  where
+    refused : (c d : Cause) → RawOf text (Refuses c) → RawOf text (Refuses d) → c ≡ d
+    refused (Asm a k) (Asm b l) first second =
+        let same = program_texts.one_refusal text (lines.refused a k) (lines.refused b l) first second in
+        let line : a ≡ b = ap (λ (r : lines.Refusal). r.line) same in
+        let kind : k ≡ l = ap (λ (r : lines.Refusal). r.kind) same in cc
+    refused (Asm a k) d first second = absurd second
+    refused c d first second = absurd first
+
+    apart : (raw : RawData) (c : Cause) → RawOf text (Gives raw) → RawOf text (Refuses c) → ⊥
+    apart raw (Asm a k) first second = program_texts.not_both text raw (lines.refused a k) first second
+    apart raw c first second = second
+
+single-loaded_on : (m : MachineData) (raw : RawData) → IsSingle (LoadedOn m raw)
+single-loaded_on m raw = record { given = λ p q is also. is.1 ∙ sym also.1; refused = refused; not_both = apart }
+  where
+    refused : (c d : Cause) → LoadedOn m raw (Refuses c) → LoadedOn m raw (Refuses d) → c ≡ d
+    refused (Load f) (Load g) first second = ap Load (same_Some f g (sym first ∙ second))
+    refused (Load f) d first second = absurd second
+    refused c d first second = absurd first
+
+    apart : (p : ProgramData) (c : Cause) → LoadedOn m raw (Gives p) → LoadedOn m raw (Refuses c) → ⊥
+    apart p (Load f) first second = let none = first.0 in let some : load_refusal m raw ≡ Some f = second in cc
+    apart p c first second = second
+
+single-program_in : (held : Holding) (m : MachineData) (name : List ℕ) → IsSingle (ProgramIn (Some held) m name)
+single-program_in held m name =
+    single-then (RawIn (Some held) name) (LoadedOn m)
+    (single-then (FileIn (Some held) name PROGRAM_LIMIT) RawOf (single-file held name PROGRAM_LIMIT) single-raw_of) (single-loaded_on m)
+
+single-same : (c : CircuitData) (p : ProgramData) → IsSingle (SameAs c p)
+single-same c p = record { given = λ u v is also. refl; refused = refused; not_both = apart }
+  where
+    refused : (x y : Cause) → SameAs c p (Refuses x) → SameAs c p (Refuses y) → x ≡ y
+    refused (NotSame v) (NotSame w) first second = ap NotSame (one_at_most c p v w first.0 second.0)
+    refused (NotSame v) y first second = absurd second
+    refused x y first second = absurd first
+
+    apart : (u : Unit {0}) (x : Cause) → SameAs c p (Gives u) → SameAs c p (Refuses x) → ⊥
+    apart u (NotSame v) first second = second.1 (one_at_most c p v Same second.0 first)
+    apart u x first second = second
+
+single-loaded : (held : Holding) (machine : AskedMachine) (program : List ℕ) → IsSingle (LoadedIn (Some held) machine program)
+single-loaded held machine program = single-then _ _ (single-machine held machine) (λ m. single-program_in held m program)
+
+single-checked : (held : Holding) (machine : AskedMachine) (circuit program : List ℕ) → IsSingle (CheckedIn (Some held) machine circuit program)
+single-checked held machine circuit program =
+    single-then _ _ (single-machine held machine) (λ m.
+    single-then _ _ (single-circuit held circuit) (λ c.
+    single-then _ _ (single-program_in held m program) (λ p.
+    single-then _ _ (single-same c p) (λ passed. single-just _))))
+
+pub single-compiled : (held : Holding) (machine : AskedMachine) (circuit : List ℕ) (mode : Mode) → IsSingle (CompiledIn (Some held) machine circuit mode)
 single-compiled held machine circuit mode =
     single-then _ _ (single-machine held machine) (λ m.
     single-then _ _ (single-circuit held circuit) (λ c. single-program c m mode))
@@ -164,6 +225,9 @@ single-rehearsed held machine number qubits items =
 -- a command has one answer
 single-text : (held : Holding) (asked : Asked) → IsSingle (TextOf (Some held) asked)
 single-text held (AskedRun machine circuit workers mode) = single-then _ _ (single-compiled held machine circuit mode) (λ p. single-just _)
+single-text held (AskedCompile machine circuit mode) = single-then _ _ (single-compiled held machine circuit mode) (λ p. single-just _)
+single-text held (AskedExec machine program workers) = single-then _ _ (single-loaded held machine program) (λ p. single-just _)
+single-text held (AskedCheck machine circuit program) = single-then _ _ (single-checked held machine circuit program) (λ p. single-just _)
 single-text held (AskedRehearse number qubits items machine workers) = single-then _ _ (single-rehearsed held machine number qubits items) (λ p. single-just _)
 
 -- so have words

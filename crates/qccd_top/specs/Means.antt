@@ -1,5 +1,5 @@
 -- What each command writes, or for what it is refused.
-use Rattle.std.specs.Prelude.{ℕ, List, Option}
+use Rattle.std.specs.Prelude.{ℕ, List, Option, codes}
 use Rattle.qccd_base.specs.declared.names.Mode.{Mode}
 use Rattle.qccd_base.specs.declared.names.Mode.TheVariants.{IonSwap}
 use Rattle.qccd_io.specs.Shelf.{Holding}
@@ -7,9 +7,10 @@ use Rattle.claim_core.specs.Program.{ProgramData}
 use Rattle.rehearsal.specs.Generated.{generated}
 use Rattle.tracer.specs.Report.{report_text}
 use Rattle.tracer.specs.Summary.{summary_text}
-use Rattle.qccd_words.specs.Words.{AskedMachine, Asked, AskedRun, AskedRehearse}
+use Rattle.transport_asm.specs.ProgramText.{program_text}
+use Rattle.qccd_words.specs.Words.{AskedMachine, Asked, AskedRun, AskedCompile, AskedExec, AskedCheck, AskedRehearse}
 use Rattle.qccd_top.specs.Stage.{Stage, ◌>>=◌, Just}
-use Rattle.qccd_top.specs.Stages.{WordsOf, MachineIn, CircuitIn, Compiled}
+use Rattle.qccd_top.specs.Stages.{WordsOf, MachineIn, CircuitIn, Compiled, ProgramIn, SameAs}
 
 -- the program of the circuit in the file of this name, for the machine that the word names
 abbrev pub CompiledIn : Option Holding → AskedMachine → List ℕ → Mode → Stage ProgramData
@@ -17,6 +18,21 @@ CompiledIn told machine circuit mode = do
   m ← MachineIn told machine
   c ← CircuitIn told circuit
   Compiled c m mode
+
+-- the program in the file of this name, on the machine that the word names
+abbrev pub LoadedIn : Option Holding → AskedMachine → List ℕ → Stage ProgramData
+LoadedIn told machine program = do
+  m ← MachineIn told machine
+  ProgramIn told m program
+
+-- the program in one file, where it is the same as the circuit in the other
+abbrev pub CheckedIn : Option Holding → AskedMachine → (circuit program : List ℕ) → Stage ProgramData
+CheckedIn told machine circuit program = do
+  m ← MachineIn told machine
+  c ← CircuitIn told circuit
+  p ← ProgramIn told m program
+  passed ← SameAs c p
+  Just p
 
 -- the program of a circuit that is generated, for the machine that the word names
 abbrev pub RehearsedIn : Option Holding → AskedMachine → (number qubits items : ℕ) → Stage ProgramData
@@ -29,6 +45,15 @@ abbrev pub TextOf : Option Holding → Asked → Stage (List ℕ)
 TextOf told (AskedRun machine circuit workers mode) = do
   p ← CompiledIn told machine circuit mode
   Just (report_text p)
+TextOf told (AskedCompile machine circuit mode) = do
+  p ← CompiledIn told machine circuit mode
+  Just (program_text p)
+TextOf told (AskedExec machine program workers) = do
+  p ← LoadedIn told machine program
+  Just (report_text p)
+TextOf told (AskedCheck machine circuit program) = do
+  p ← CheckedIn told machine circuit program
+  Just (codes "same\n")
 TextOf told (AskedRehearse number qubits items machine workers) = do
   p ← RehearsedIn told machine number qubits items
   Just (summary_text p number items)

@@ -53,7 +53,11 @@ pub record Visits {X A : Type 0} (told : X → Option Holding) (faults : X → �
   pub same : told new ≡ told old
   pub count : faults old ≤ faults new
 
+-- what is seen of a result's value
+abbrev pub viewed : {A B : Type 0} → (A → B) → Result A Refusal → Result B Refusal
+viewed view (Ok value) = Ok (view value)
+viewed view (Err refusal) = Err refusal
+
 -- the bytes of a result
 abbrev pub bytes_of : Result (Vec ℕ Global) Refusal → Result (List ℕ) Refusal
-bytes_of (Ok v) = Ok v.items
-bytes_of (Err refusal) = Err refusal
+bytes_of result = viewed (λ v. v.items) result

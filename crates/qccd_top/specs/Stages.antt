@@ -1,5 +1,5 @@
 -- The stages of which commands are made.
-use Rattle.std.specs.Prelude.{◌≡◌, ℕ, ◌≤◌, List, length, Option, Some, None}
+use Rattle.std.specs.Prelude.{◌≡◌, ◌≢◌, ℕ, ◌≤◌, List, length, Option, Some, None}
 use Rattle.qccd_base.specs.declared.names.Mode.{Mode}
 use Rattle.qccd_io.specs.Shelf.{Holding, Lacks}
 use Rattle.qccd_io.specs.Fetch.{HoldsFile, HoldsMoreThan}
@@ -11,9 +11,14 @@ use Rattle.qasm_reader.specs.Reading.{IsCircuitOf, IsRefusedAt}
 use Rattle.claim_core.specs.Program.{ProgramData}
 use Rattle.compiler.specs.Chosen.{IsTooLong}
 use Rattle.compiler.specs.Compiled.{IsProgramFor, IsShortage}
+use Rattle.transport_asm.specs.Lines.{refused}
+use Rattle.transport_asm.specs.Texts as texts
+use Rattle.loader.specs.Refusal.{on_machine, load_refusal}
+use Rattle.meaning_check.specs.Verdict.{IsVerdict}
+use Rattle.meaning_check.specs.declared.verdict.Verdict.TheVariants.{Same}
 use Rattle.qccd_words.specs.Words.{AskedMachine, OfPreset, OfFile, Asked, request_of}
-use Rattle.qccd_refusals.specs.Cause.{Cause, Words, Read, TooLarge, Machine, Circuit, Shortage, TooLong}
-use Rattle.qccd_top.specs.declared.limits.TheConstants.{CIRCUIT_LIMIT, MACHINE_LIMIT}
+use Rattle.qccd_refusals.specs.Cause.{Cause, Words, Read, TooLarge, Machine, Circuit, Shortage, TooLong, Asm, Load, NotSame}
+use Rattle.qccd_top.specs.declared.limits.TheConstants.{CIRCUIT_LIMIT, MACHINE_LIMIT, PROGRAM_LIMIT}
 use Rattle.qccd_top.specs.Stage.{Answer, Gives, Refuses, Fetches, Stage, ◌>>=◌, Just}
 
 -- what the words ask for
@@ -62,3 +67,32 @@ Compiled c m mode (Refuses (Shortage qubits slots)) = IsShortage c m qubits slot
 Compiled c m mode (Refuses (TooLong done items ops)) = (items ≡ length c.items) × (c.qubits ≤ slots_of m) × IsTooLong c m mode done ops
 Compiled c m mode (Refuses cause) = ⊥
 Compiled c m mode (Fetches name) = ⊥
+
+-- the raw program that a text spells
+abbrev pub RawOf : List ℕ → Stage texts.RawData
+RawOf text (Gives raw) = texts.Spells text raw
+RawOf text (Refuses (Asm line kind)) = texts.IsRefusedAt text (refused line kind)
+RawOf text (Refuses cause) = ⊥
+RawOf text (Fetches name) = ⊥
+
+-- the raw program in the file of this name
+abbrev pub RawIn : Option Holding → List ℕ → Stage texts.RawData
+RawIn told name = FileIn told name PROGRAM_LIMIT >>= RawOf
+
+-- the raw program on the machine: refused where it is no program of it
+abbrev pub LoadedOn : MachineData → texts.RawData → Stage ProgramData
+LoadedOn m raw (Gives p) = (load_refusal m raw ≡ None) × (p ≡ on_machine m raw)
+LoadedOn m raw (Refuses (Load fault)) = load_refusal m raw ≡ Some fault
+LoadedOn m raw (Refuses cause) = ⊥
+LoadedOn m raw (Fetches name) = ⊥
+
+-- the program in the file of this name, on the machine
+abbrev pub ProgramIn : Option Holding → MachineData → List ℕ → Stage ProgramData
+ProgramIn told m name = RawIn told name >>= LoadedOn m
+
+-- passed where the verdict is that the program is the same as the circuit, and refused with any other one
+abbrev pub SameAs : CircuitData → ProgramData → Stage (Unit {0})
+SameAs c p (Gives passed) = IsVerdict c p Same
+SameAs c p (Refuses (NotSame verdict)) = IsVerdict c p verdict × (verdict ≢ Same)
+SameAs c p (Refuses cause) = ⊥
+SameAs c p (Fetches name) = ⊥

@@ -2,12 +2,13 @@
 
 ghost use Rattle.std.specs.Prelude.{◌≡◌, None, IsErrAnd, map, string_bytes};
 ghost use Rattle.qccd_io.specs.Shelf.{NoneIsOut};
-ghost use Rattle.qccd_words.specs.Words.{AskedRun, AskedRehearse, asked, machine_asked, request_of, AreFew, AreFewAsked, HasCapacity, HasCapacityAsked};
+ghost use Rattle.qccd_words.specs.Words.{AskedRun, AskedCompile, AskedExec, AskedCheck, AskedRehearse, asked, machine_asked, request_of, AreFew, HasCapacity, IsWithinLimits};
 ghost use Rattle.qccd_refusals.specs.Cause.{Words, cause_of};
 ghost use Rattle.qccd_top.specs.Means.{TextFor, TextOf};
 ghost use Rattle.qccd_top.specs.Done.{Does};
 
-use crate::output::{write_report, write_summary};
+use crate::output::{write_report, write_same, write_summary, write_text};
+use crate::programs::{checked_in, loaded_in};
 use crate::stages::{compiled_in, rehearsed_in};
 use qccd_base::Mode;
 use qccd_io::{Shelf, Sink};
@@ -41,8 +42,7 @@ fn obey<'a, F: Shelf, O: Sink>(
     out: &mut O,
 ) -> Result<(), Refusal<'a>>
     requires inside { NoneIsOut (F.told shelf.old) }
-    requires capacity { HasCapacityAsked command }
-    requires few { AreFewAsked command }
+    requires limits { IsWithinLimits (asked command) }
     ensures { Does F.told F.faults O.taken O.faults shelf.old shelf.new out.old out.new (λ told. TextOf told (asked command.entry)) result }
 {
     match command {
@@ -52,6 +52,21 @@ fn obey<'a, F: Shelf, O: Sink>(
             workers,
             mode,
         } => run(alloc, machine, circuit, workers, mode, shelf, out),
+        Command::Compile {
+            machine,
+            circuit,
+            mode,
+        } => compile(alloc, machine, circuit, mode, shelf, out),
+        Command::Exec {
+            machine,
+            program,
+            workers,
+        } => exec(alloc, machine, program, workers, shelf, out),
+        Command::Check {
+            machine,
+            circuit,
+            program,
+        } => check(alloc, machine, circuit, program, shelf, out),
         Command::Rehearse {
             number,
             qubits,
@@ -78,6 +93,57 @@ fn run<'a, F: Shelf, O: Sink>(
 {
     let program = compiled_in(alloc, shelf, machine, circuit, mode)?;
     write_report(alloc, &program, out)
+}
+
+/// Compiles the circuit of the file of this name and writes the text of its program.
+fn compile<'a, F: Shelf, O: Sink>(
+    alloc: Global,
+    machine: MachineWord<'a>,
+    circuit: &'a str,
+    mode: Mode,
+    shelf: &mut F,
+    out: &mut O,
+) -> Result<(), Refusal<'a>>
+    requires inside { NoneIsOut (F.told shelf.old) }
+    requires capacity { HasCapacity (machine_asked machine) }
+    ensures { Does F.told F.faults O.taken O.faults shelf.old shelf.new out.old out.new (λ told. TextOf told (AskedCompile (machine_asked machine.entry) circuit.now mode)) result }
+{
+    let program = compiled_in(alloc, shelf, machine, circuit, mode)?;
+    write_text(alloc, &program, out)
+}
+
+/// Loads the program of the file of this name and writes its report.
+fn exec<'a, F: Shelf, O: Sink>(
+    alloc: Global,
+    machine: MachineWord<'a>,
+    program: &'a str,
+    workers: u8,
+    shelf: &mut F,
+    out: &mut O,
+) -> Result<(), Refusal<'a>>
+    requires inside { NoneIsOut (F.told shelf.old) }
+    requires capacity { HasCapacity (machine_asked machine) }
+    ensures { Does F.told F.faults O.taken O.faults shelf.old shelf.new out.old out.new (λ told. TextOf told (AskedExec (machine_asked machine.entry) program.now workers)) result }
+{
+    let loaded = loaded_in(alloc, shelf, machine, program)?;
+    write_report(alloc, &loaded, out)
+}
+
+/// Loads the program of the one file and compares it with the circuit of the other.
+fn check<'a, F: Shelf, O: Sink>(
+    alloc: Global,
+    machine: MachineWord<'a>,
+    circuit: &'a str,
+    program: &'a str,
+    shelf: &mut F,
+    out: &mut O,
+) -> Result<(), Refusal<'a>>
+    requires inside { NoneIsOut (F.told shelf.old) }
+    requires capacity { HasCapacity (machine_asked machine) }
+    ensures { Does F.told F.faults O.taken O.faults shelf.old shelf.new out.old out.new (λ told. TextOf told (AskedCheck (machine_asked machine.entry) circuit.now program.now)) result }
+{
+    let _checked = checked_in(alloc, shelf, machine, circuit, program)?;
+    write_same(out)
 }
 
 /// Compiles the circuit that is generated from the number and writes the summary of its program.

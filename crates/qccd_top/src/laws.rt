@@ -1,7 +1,7 @@
 //! What is due for words and files, where a shelf tells what it holds. Each function does nothing: its
 //! contract is the law.
 
-ghost use Rattle.std.specs.Prelude.{◌≡◌, ◌<◌, ◌≤◌, ◌*◌, ℕ, List, Some, None, length};
+ghost use Rattle.std.specs.Prelude.{◌≡◌, ◌≢◌, ◌<◌, ◌≤◌, ◌*◌, ℕ, List, All, Some, None, length};
 ghost use Rattle.qccd_base.specs.declared.names.Mode.{Mode};
 ghost use Rattle.qccd_io.specs.Shelf.{Holding};
 ghost use Rattle.qccd_circuit.specs.Circuit.{CircuitData};
@@ -12,10 +12,22 @@ ghost use Rattle.machine_text.specs.declared.fault.TextFault.{TextFault};
 ghost use Rattle.machine_text.specs.Machine.{IsMachineOf, IsRefusalOf};
 ghost use Rattle.qasm_reader.specs.declared.fault.QasmKind.{QasmKind};
 ghost use Rattle.qasm_reader.specs.Reading.{IsCircuitOf, IsRefusedAt};
+ghost use Rattle.claim_core.specs.Implements.{Implements};
+ghost use Rattle.claim_core.specs.Legal.{IsLegalProgram};
+ghost use Rattle.claim_core.specs.Program.{ProgramData};
 ghost use Rattle.compiler.specs.Chosen.{IsTooLong};
-ghost use Rattle.qccd_words.specs.Words.{AskedMachine, OfPreset, OfFile, AskedRun, AskedRehearse, request_of};
+ghost use Rattle.transport_asm.specs.declared.faults.AsmKind.{AsmKind};
+ghost use Rattle.transport_asm.specs.Lines.{refused};
+ghost use Rattle.transport_asm.specs.Texts as texts;
+ghost use Rattle.loader.specs.declared.faults.LoadFault.{LoadFault};
+ghost use Rattle.loader.specs.Refusal.{load_refusal, on_machine};
+ghost use Rattle.meaning_check.specs.Verdict.{IsVerdict};
+ghost use Rattle.meaning_check.specs.declared.verdict.Verdict.{Verdict};
+ghost use Rattle.meaning_check.specs.declared.verdict.Verdict.TheVariants.{Same};
+ghost use Rattle.qccd_words.specs.Words.{AskedMachine, OfPreset, OfFile, AskedRun, AskedCompile, AskedExec, AskedCheck, AskedRehearse, HasCapacity, request_of};
 ghost use Rattle.qccd_top.specs.Stage.{Gives};
-ghost use Rattle.qccd_top.specs.Stages.{MachineIn};
+ghost use Rattle.qccd_top.specs.Stages.{MachineIn, CircuitIn, ProgramIn};
+ghost use Rattle.qccd_top.specs.Means.{TextOf};
 ghost use Rattle.qccd_top.specs.Done.{IsDue};
 
 /// One status at most is due.
@@ -102,6 +114,78 @@ pub fn accepted_run()
         → IsDue words held 0 }
 {}
 
+/// The text of the program of such a circuit: 0.
+pub fn accepted_compile()
+    ensures { (words : List (List ℕ)) (held : Holding) (machine : AskedMachine) (circuit text : List ℕ) (mode : Mode) (m : MachineData) (c : CircuitData)
+        → request_of words ≡ Some (AskedCompile machine circuit mode) → MachineIn (Some held) machine (Gives m)
+        → held.file circuit ≡ Some text → length text ≤ 16777216 → IsCircuitOf text c → c.qubits ≤ slots_of m
+        → length c.items * worst_of m ≤ 4194304
+        → IsDue words held 0 }
+{}
+
+/// The program's file is not held: 3.
+pub fn missing_program()
+    ensures { (words : List (List ℕ)) (held : Holding) (machine : AskedMachine) (program : List ℕ) (workers : ℕ) (m : MachineData)
+        → request_of words ≡ Some (AskedExec machine program workers) → MachineIn (Some held) machine (Gives m)
+        → held.file program ≡ None
+        → IsDue words held 3 }
+{}
+
+/// The program's file has more than 268,435,456 bytes: 5.
+pub fn large_program()
+    ensures { (words : List (List ℕ)) (held : Holding) (machine : AskedMachine) (program text : List ℕ) (workers : ℕ) (m : MachineData)
+        → request_of words ≡ Some (AskedExec machine program workers) → MachineIn (Some held) machine (Gives m)
+        → held.file program ≡ Some text → 268435456 < length text
+        → IsDue words held 5 }
+{}
+
+/// The program's text is refused: 10.
+pub fn refused_program_text()
+    ensures { (words : List (List ℕ)) (held : Holding) (machine : AskedMachine) (program text : List ℕ) (workers : ℕ) (m : MachineData) (line : ℕ) (kind : AsmKind)
+        → request_of words ≡ Some (AskedExec machine program workers) → MachineIn (Some held) machine (Gives m)
+        → held.file program ≡ Some text → length text ≤ 268435456 → texts.IsRefusedAt text (refused line kind)
+        → IsDue words held 10 }
+{}
+
+/// What the text spells is no program of the machine: 10.
+pub fn refused_program()
+    ensures { (words : List (List ℕ)) (held : Holding) (machine : AskedMachine) (program text : List ℕ) (workers : ℕ) (m : MachineData) (raw : texts.RawData) (fault : LoadFault)
+        → request_of words ≡ Some (AskedExec machine program workers) → MachineIn (Some held) machine (Gives m)
+        → held.file program ≡ Some text → length text ≤ 268435456 → texts.Spells text raw → load_refusal m raw ≡ Some fault
+        → IsDue words held 10 }
+{}
+
+/// A program that its file holds: 0.
+pub fn accepted_exec()
+    ensures { (words : List (List ℕ)) (held : Holding) (machine : AskedMachine) (program : List ℕ) (workers : ℕ) (m : MachineData) (p : ProgramData)
+        → request_of words ≡ Some (AskedExec machine program workers) → MachineIn (Some held) machine (Gives m) → ProgramIn (Some held) m program (Gives p)
+        → IsDue words held 0 }
+{}
+
+/// For a comparison the circuit is told first: 7 where its text is refused, whatever the program's file.
+pub fn circuit_before_program()
+    ensures { (words : List (List ℕ)) (held : Holding) (machine : AskedMachine) (circuit program text : List ℕ) (m : MachineData) (at : ℕ) (kind : QasmKind)
+        → request_of words ≡ Some (AskedCheck machine circuit program) → MachineIn (Some held) machine (Gives m)
+        → held.file circuit ≡ Some text → length text ≤ 16777216 → IsRefusedAt text at kind
+        → IsDue words held 7 }
+{}
+
+/// The verdict on the program is another than that it is the same: 11.
+pub fn not_the_same()
+    ensures { (words : List (List ℕ)) (held : Holding) (machine : AskedMachine) (circuit program : List ℕ) (m : MachineData) (c : CircuitData) (p : ProgramData) (verdict : Verdict)
+        → request_of words ≡ Some (AskedCheck machine circuit program) → MachineIn (Some held) machine (Gives m) → CircuitIn (Some held) circuit (Gives c)
+        → ProgramIn (Some held) m program (Gives p) → IsVerdict c p verdict → verdict ≢ Same
+        → IsDue words held 11 }
+{}
+
+/// The program implements the circuit: 0.
+pub fn accepted_check()
+    ensures { (words : List (List ℕ)) (held : Holding) (machine : AskedMachine) (circuit program : List ℕ) (m : MachineData) (c : CircuitData) (p : ProgramData)
+        → request_of words ≡ Some (AskedCheck machine circuit program) → MachineIn (Some held) machine (Gives m) → CircuitIn (Some held) circuit (Gives c)
+        → ProgramIn (Some held) m program (Gives p) → Implements p c m
+        → IsDue words held 0 }
+{}
+
 /// A rehearsal within the machine's slots, the bounds of whose items are together within the limit: 0.
 pub fn accepted_rehearsal()
     ensures { (words : List (List ℕ)) (held : Holding) (number qubits items : ℕ) (machine : AskedMachine) (workers : ℕ) (m : MachineData)
@@ -115,4 +199,24 @@ pub fn machine_given()
     ensures preset { (held : Holding) (which : Preset) (capacity : ℕ) → MachineIn (Some held) (OfPreset which capacity) (Gives (preset_of which capacity)) }
     ensures file { (held : Holding) (name text : List ℕ) (m : MachineData) → held.file name ≡ Some text → length text ≤ 1048576 → IsMachineOf text m
         → MachineIn (Some held) (OfFile name) (Gives m) }
+{}
+
+/// Which circuit and which program a file gives: those of a text that is held. A program is given where what the
+/// text spells is a legal program of the machine.
+pub fn files_given()
+    ensures circuit { (held : Holding) (name text : List ℕ) (c : CircuitData) → held.file name ≡ Some text → length text ≤ 16777216 → IsCircuitOf text c
+        → CircuitIn (Some held) name (Gives c) }
+    ensures program { (held : Holding) (name text : List ℕ) (m : MachineData) (raw : texts.RawData) → held.file name ≡ Some text → length text ≤ 268435456
+        → texts.Spells text raw → IsLegalProgram (on_machine m raw)
+        → ProgramIn (Some held) m name (Gives (on_machine m raw)) }
+{}
+
+/// What the run of a program in a file writes, where its text is the one that compiling writes, is what the run of
+/// the circuit writes. No item of the circuit is conditional.
+pub fn runs_what_is_compiled()
+    ensures { (held : Holding) (machine : AskedMachine) (circuit program text report : List ℕ) (mode : Mode) (workers others : ℕ) (c : CircuitData)
+        → HasCapacity machine → CircuitIn (Some held) circuit (Gives c) → All (λ d. d.cond ≡ None) c.items
+        → TextOf (Some held) (AskedCompile machine circuit mode) (Gives text) → TextOf (Some held) (AskedRun machine circuit workers mode) (Gives report)
+        → held.file program ≡ Some text → length text ≤ 268435456
+        → TextOf (Some held) (AskedExec machine program others) (Gives report) }
 {}

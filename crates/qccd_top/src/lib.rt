@@ -8,6 +8,7 @@ mod limits;
 #[cfg(test)]
 mod machine_tests;
 mod output;
+mod programs;
 mod stages;
 #[cfg(test)]
 mod tests;

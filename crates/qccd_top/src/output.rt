@@ -1,16 +1,19 @@
 //! What a command writes at its end, gathered in large pieces.
 
+ghost use Rattle.std.specs.Prelude.{codes};
 ghost use Rattle.claim_core.specs.AllCells.{AtEnd};
+ghost use Rattle.transport_asm.specs.ProgramText.{program_text};
 ghost use Rattle.tracer.specs.Report.{report_text};
 ghost use Rattle.tracer.specs.Summary.{summary_text};
 ghost use Rattle.qccd_top.specs.Done.{Writes};
 
 use claim_core::{Program, run_in_order};
 use op_cells::Cells;
-use qccd_io::{Buffer, Buffered, Failed, Sink};
+use qccd_io::{Buffer, Buffered, Failed, Sink, send};
 use qccd_refusals::Refusal;
 use std::alloc::Global;
 use tracer::ReportFault;
+use transport_asm::write_program;
 
 /// Runs the program, and writes its report.
 pub fn write_report<'a, O: Sink>(
@@ -52,6 +55,38 @@ pub fn write_summary<'a, O: Sink>(
             Err(Failed) => Err(Refusal::Write),
             Ok(()) => Ok(()),
         },
+    }
+}
+
+/// Writes the text of the program.
+#[tactic(auto, using(qccd_io::proofs::Appended::buffers))]
+pub fn write_text<'a, O: Sink>(
+    alloc: Global,
+    program: &Program,
+    out: &mut O,
+) -> Result<(), Refusal<'a>>
+    ensures { Writes O.taken O.faults out.old out.new (program_text program.now) result }
+{
+    let Ok(mut buffer) = Buffer::of(alloc) else {
+        return Err(Refusal::NoMemory);
+    };
+    let mut buffered = Buffered::of(&mut buffer, out);
+    match write_program(program, &mut buffered) {
+        Err(Failed) => Err(Refusal::Write),
+        Ok(()) => match buffered.finish() {
+            Err(Failed) => Err(Refusal::Write),
+            Ok(()) => Ok(()),
+        },
+    }
+}
+
+/// Writes that a program is the same as a circuit.
+pub fn write_same<'a, O: Sink>(out: &mut O) -> Result<(), Refusal<'a>>
+    ensures { Writes O.taken O.faults out.old out.new (codes "same\n") result }
+{
+    match send(out, b"same\n") {
+        Err(Failed) => Err(Refusal::Write),
+        Ok(()) => Ok(()),
     }
 }
 

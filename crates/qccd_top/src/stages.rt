@@ -25,7 +25,7 @@ use rehearsal::rehearsal;
 use std::alloc::Global;
 
 /// The bytes of the file of this name, of which there are at most `limit`.
-fn file_in<'a, F: Shelf>(
+pub fn file_in<'a, F: Shelf>(
     alloc: Global,
     shelf: &mut F,
     name: &'a str,

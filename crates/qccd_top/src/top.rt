@@ -6,7 +6,7 @@ ghost use Rattle.qccd_io.specs.Shelf.{Holding, NoneIsOut};
 ghost use Rattle.qccd_words.specs.Words.{request_of};
 ghost use Rattle.qccd_top.specs.Call.{call_of, output};
 ghost use Rattle.qccd_top.specs.Done.{IsDone, IsAnswered, IsDue, IsDueOrFault};
-ghost use Rattle.qccd_top.specs.Headline.{AsksRun, AsksRehearsal, IsReported, IsCutReport, IsSummarized};
+ghost use Rattle.qccd_top.specs.Headline.{AsksRun, AsksCompile, AsksExec, AsksCheck, AsksRehearsal, IsReported, IsCutReport, IsProgramWritten, IsExecuted, IsSameTold, IsSummarized};
 
 use crate::answer::answer;
 use qccd_io::{Post, Shelf, Sink};
@@ -22,13 +22,14 @@ pub struct Status(pub u8);
 /// Does what the words ask for, and says with which status the program ends. The words are those
 /// after the program's own name.
 ///
-/// With status 0 `out` took the report, or the summary of a rehearsal. With 4 a write failed, and `out`
-/// took a prefix of it; with any other status it took nothing. `err` is told why: 2 the words are of no
-/// form that is known, 3 a file could not be read, 5 it has too many bytes, 6 the machine's file is
-/// refused, 7 the circuit's file is refused, 8 the machine takes fewer qubits, 9 the program grows past
-/// its limit, 12 out of memory. They are looked for in this order: words; the machine's file and the
-/// machine; the circuit's file and the circuit; its qubits; the program's length; the writing. A fault
-/// of `err` changes no status.
+/// With status 0 `out` took the report, the text of a program, that a program is the same as a circuit, or
+/// the summary of a rehearsal. With 4 a write failed, and `out` took a prefix of it; with any other status it
+/// took nothing. `err` is told why: 2 the words are of no form that is known, 3 a file could not be read, 5
+/// it has too many bytes, 6 the machine's file is refused, 7 the circuit's file is refused, 8 the machine
+/// takes fewer qubits, 9 the program grows past its limit, 10 the program's file is refused, 11 the program is
+/// not the same as the circuit, 12 out of memory. They are looked for in this order: words; the machine's
+/// file and the machine; the circuit's file and the circuit; its qubits; the program's length; the program's
+/// file and the program; the comparison; the writing. A fault of `err` changes no status.
 pub fn run<R: Threads + Sync, F: Shelf, O: Sink, E: Sink, P: Post>(
     _rt: &R,
     alloc: Global,
@@ -42,9 +43,20 @@ pub fn run<R: Threads + Sync, F: Shelf, O: Sink, E: Sink, P: Post>(
     // For a run, what was written with status 0 is the report of the one program meant, which implements
     // the circuit, keeps every bound and meets each gate's operands; with status 4 it is a prefix of it.
     ensures headline { let call = call_of F.told F.faults words.now shelf.old shelf.new (output O.taken O.faults out.old out.new) in
-        AsksRun call.words → result.0 ≡ 0 → IsReported call }
+        (asks : AsksRun call.words) → result.0 ≡ 0 → IsReported call asks }
     ensures cut { let call = call_of F.told F.faults words.now shelf.old shelf.new (output O.taken O.faults out.old out.new) in
-        AsksRun call.words → result.0 ≡ 4 → IsCutReport call }
+        (asks : AsksRun call.words) → result.0 ≡ 4 → IsCutReport call asks }
+    // For compiling it is the text of such a program.
+    ensures compiled { let call = call_of F.told F.faults words.now shelf.old shelf.new (output O.taken O.faults out.old out.new) in
+        (asks : AsksCompile call.words) → result.0 ≡ 0 → IsProgramWritten call asks }
+    // For the run of a program in a file it is the report of the program whose text that is, which keeps
+    // every bound and meets each gate's operands.
+    ensures executed { let call = call_of F.told F.faults words.now shelf.old shelf.new (output O.taken O.faults out.old out.new) in
+        (asks : AsksExec call.words) → result.0 ≡ 0 → IsExecuted call asks }
+    // For a comparison it is that they are the same, and the program whose text is in the file implements
+    // the circuit.
+    ensures checked { let call = call_of F.told F.faults words.now shelf.old shelf.new (output O.taken O.faults out.old out.new) in
+        (asks : AsksCheck call.words) → result.0 ≡ 0 → IsSameTold call asks }
     // For a rehearsal it is the summary of such a program for the circuit that is generated.
     ensures rehearsed { let call = call_of F.told F.faults words.now shelf.old shelf.new (output O.taken O.faults out.old out.new) in
         (asks : AsksRehearsal call.words) → result.0 ≡ 0 → IsSummarized call asks }

@@ -8,11 +8,12 @@ use Rattle.std.proofs.lemmas.Bool.{le-leb, leb-true}
 use Rattle.std.proofs.lemmas.Fmt.{decimal_injective, digits_value-decimal}
 use Rattle.std.proofs.lemmas.Str.Parse.{IsNumeralModel, numerals_by_value}
 use Rattle.std.proofs.lemmas.List.{append_cancel_left, append-nil}
+use Rattle.std.proofs.lemmas.Option.{same_Some}
 use Rattle.std.proofs.lemmas.Slice.Eq.{bytes_eq-Decides}
 use Rattle.qccd_base.specs.declared.names.Mode.{Mode}
 use Rattle.qccd_machine.specs.declared.place.Preset.{Preset}
 use Rattle.qccd_machine.specs.declared.place.Preset.TheVariants.{L6, G2x3, Single}
-use Rattle.qccd_words.specs.Words.{AskedMachine, OfPreset, OfFile, Asked, AskedRun, AskedRehearse, capacities, capacity_after, first_of, preset_named, begins_with_at, machine_of, mode_of, run_asked, run_of, number_named, rehearse_asked, rehearse_of, request_of, HasCapacity, AreFew}
+use Rattle.qccd_words.specs.Words.{AskedMachine, OfPreset, OfFile, Asked, AskedRun, AskedCompile, AskedExec, AskedCheck, AskedRehearse, capacities, capacity_after, first_of, preset_named, begins_with_at, machine_of, mode_of, with_mode, run_of, compile_of, exec_of, check_of, number_named, rehearse_asked, rehearse_of, request_of, HasCapacity, IsWithinLimits}
 
 -- ---- the first number of a range that does
 
@@ -189,111 +190,80 @@ machine_bounds : (b : Bool) (word : List ℕ) (m : AskedMachine) → cond b (pre
 machine_bounds true word m is = named_bounds word m is
 machine_bounds false word m is = let same : OfFile word ≡ m = cc in subst HasCapacity same tt
 
--- a run is asked for of a machine that is asked for
-run_machine : (circuit : List ℕ) (o : Option AskedMachine) (p : Option Mode) (m : AskedMachine) (name : List ℕ) (workers : ℕ) (mode : Mode) → run_asked circuit o p ≡ Some (AskedRun m name workers mode) → o ≡ Some m
-run_machine circuit (Some n) (Some swap) m name workers mode is = let same : n ≡ m = cc in ap Some same
-run_machine circuit (Some n) None m name workers mode is = absurd (cc)
-run_machine circuit None (Some swap) m name workers mode is = absurd (cc)
-run_machine circuit None None m name workers mode is = absurd (cc)
+-- ---- what is asked for is within limits
 
-run_only : (circuit : List ℕ) (o : Option AskedMachine) (p : Option Mode) (number qubits items : ℕ) (m : AskedMachine) (workers : ℕ) → run_asked circuit o p ≡ Some (AskedRehearse number qubits items m workers) → ⊥
-run_only circuit (Some n) (Some swap) number qubits items m workers is = absurd (cc)
-run_only circuit (Some n) None number qubits items m workers is = absurd (cc)
-run_only circuit None (Some swap) number qubits items m workers is = absurd (cc)
-run_only circuit None None number qubits items m workers is = absurd (cc)
+with_mode_limits : (make : AskedMachine → Mode → Asked) (o : Option AskedMachine) (p : Option Mode) (a : Asked)
+    → ((m : AskedMachine) (mode : Mode) → o ≡ Some m → IsWithinLimits (make m mode)) → with_mode make o p ≡ Some a → IsWithinLimits a
+with_mode_limits make (Some m) (Some mode) a bounds is = subst IsWithinLimits (same_Some (make m mode) a is) (bounds m mode refl)
+with_mode_limits make (Some m) None a bounds is = absurd (cc)
+with_mode_limits make None (Some mode) a bounds is = absurd (cc)
+with_mode_limits make None None a bounds is = absurd (cc)
 
--- a rehearsal is asked for by each of its parts
-record Parts (o p q : Option ℕ) (r : Option AskedMachine) (number qubits items : ℕ) (m : AskedMachine) : Type 0 where
-  number_is : o ≡ Some number
-  qubits_is : p ≡ Some qubits
-  items_is : q ≡ Some items
-  machine_is : r ≡ Some m
+machine_limits : (make : AskedMachine → Asked) (o : Option AskedMachine) (a : Asked)
+    → ((m : AskedMachine) → o ≡ Some m → IsWithinLimits (make m)) → option_map make o ≡ Some a → IsWithinLimits a
+machine_limits make (Some m) a bounds is = subst IsWithinLimits (same_Some (make m) a is) (bounds m refl)
+machine_limits make None a bounds is = absurd (cc)
 
-rehearse_parts :
-    (o p q : Option ℕ) (r : Option AskedMachine) (number qubits items : ℕ) (m : AskedMachine) (workers : ℕ)
-    → rehearse_asked o p q r ≡ Some (AskedRehearse number qubits items m workers) → Parts o p q r number qubits items m
-rehearse_parts (Some a) (Some b) (Some c) (Some n) number qubits items m workers is =
-    let number_same : a ≡ number = cc in
-    let qubits_same : b ≡ qubits = cc in
-    let items_same : c ≡ items = cc in
-    let machine_same : n ≡ m = cc in
-    record { number_is = ap Some number_same; qubits_is = ap Some qubits_same; items_is = ap Some items_same; machine_is = ap Some machine_same }
-rehearse_parts (Some a) (Some b) (Some c) None number qubits items m workers is = absurd (cc)
-rehearse_parts (Some a) (Some b) None r number qubits items m workers is = absurd (cc)
-rehearse_parts (Some a) None q r number qubits items m workers is = absurd (cc)
-rehearse_parts None p q r number qubits items m workers is = absurd (cc)
+run_limits : (words : List (List ℕ)) (a : Asked) → run_of words ≡ Some a → IsWithinLimits a
+run_limits [] a is = absurd (cc)
+run_limits (machine ∷ []) a is = absurd (cc)
+run_limits (machine ∷ circuit ∷ options) a is =
+    with_mode_limits (λ m mode. AskedRun m circuit 4 mode) (machine_of machine) (mode_of options) a (λ m mode there. machine_bounds (begins_with_at machine) machine m there) is
 
-rehearse_only : (o p q : Option ℕ) (r : Option AskedMachine) (m : AskedMachine) (name : List ℕ) (workers : ℕ) (mode : Mode) → rehearse_asked o p q r ≡ Some (AskedRun m name workers mode) → ⊥
-rehearse_only (Some a) (Some b) (Some c) (Some n) m name workers mode is = absurd (cc)
-rehearse_only (Some a) (Some b) (Some c) None m name workers mode is = absurd (cc)
-rehearse_only (Some a) (Some b) None r m name workers mode is = absurd (cc)
-rehearse_only (Some a) None q r m name workers mode is = absurd (cc)
-rehearse_only None p q r m name workers mode is = absurd (cc)
+compile_limits : (words : List (List ℕ)) (a : Asked) → compile_of words ≡ Some a → IsWithinLimits a
+compile_limits [] a is = absurd (cc)
+compile_limits (machine ∷ []) a is = absurd (cc)
+compile_limits (machine ∷ circuit ∷ options) a is =
+    with_mode_limits (λ m mode. AskedCompile m circuit mode) (machine_of machine) (mode_of options) a (λ m mode there. machine_bounds (begins_with_at machine) machine m there) is
 
--- the words after one command or the other
-by_command : (b c : Bool) (r s : Option Asked) (a : Asked) → cond b r (cond c s None) ≡ Some a → (r ≡ Some a) ⊎ (s ≡ Some a)
-by_command true c r s a is = inl is
-by_command false true r s a is = inr is
-by_command false false r s a is = absurd (cc)
+exec_limits : (words : List (List ℕ)) (a : Asked) → exec_of words ≡ Some a → IsWithinLimits a
+exec_limits [] a is = absurd (cc)
+exec_limits (machine ∷ []) a is = absurd (cc)
+exec_limits (machine ∷ program ∷ []) a is =
+    machine_limits (λ m. AskedExec m program 4) (machine_of machine) a (λ m there. machine_bounds (begins_with_at machine) machine m there) is
+exec_limits (machine ∷ program ∷ more ∷ words) a is = absurd (cc)
 
-after_run : (words : List (List ℕ)) (m : AskedMachine) (name : List ℕ) (workers : ℕ) (mode : Mode) → run_of words ≡ Some (AskedRun m name workers mode) → HasCapacity m
-after_run [] m name workers mode is = absurd (cc)
-after_run (machine ∷ []) m name workers mode is = absurd (cc)
-after_run (machine ∷ circuit ∷ options) m name workers mode is =
-    machine_bounds (begins_with_at machine) machine m (run_machine circuit (machine_of machine) (mode_of options) m name workers mode is)
+check_limits : (words : List (List ℕ)) (a : Asked) → check_of words ≡ Some a → IsWithinLimits a
+check_limits [] a is = absurd (cc)
+check_limits (machine ∷ []) a is = absurd (cc)
+check_limits (machine ∷ circuit ∷ []) a is = absurd (cc)
+check_limits (machine ∷ circuit ∷ program ∷ []) a is =
+    machine_limits (λ m. AskedCheck m circuit program) (machine_of machine) a (λ m there. machine_bounds (begins_with_at machine) machine m there) is
+check_limits (machine ∷ circuit ∷ program ∷ more ∷ words) a is = absurd (cc)
 
-never_after_run : (words : List (List ℕ)) (number qubits items : ℕ) (m : AskedMachine) (workers : ℕ) → run_of words ≡ Some (AskedRehearse number qubits items m workers) → ⊥
-never_after_run [] number qubits items m workers is = absurd (cc)
-never_after_run (machine ∷ []) number qubits items m workers is = absurd (cc)
-never_after_run (machine ∷ circuit ∷ options) number qubits items m workers is = run_only circuit (machine_of machine) (mode_of options) number qubits items m workers is
+parts_limits : (o p q : Option ℕ) (r : Option AskedMachine) (a : Asked)
+    → ((n : ℕ) → o ≡ Some n → n ≤ 2147483647) → ((n : ℕ) → p ≡ Some n → (1 ≤ n) × (n ≤ 256)) → ((n : ℕ) → q ≡ Some n → n ≤ 65536)
+    → ((m : AskedMachine) → r ≡ Some m → HasCapacity m) → rehearse_asked o p q r ≡ Some a → IsWithinLimits a
+parts_limits (Some number) (Some qubits) (Some items) (Some m) a low some few capacity is =
+    subst IsWithinLimits (same_Some (AskedRehearse number qubits items m 4) a is)
+    (capacity m refl, (low number refl, (some qubits refl).0, (some qubits refl).1, few items refl))
+parts_limits (Some number) (Some qubits) (Some items) None a low some few capacity is = absurd (cc)
+parts_limits (Some number) (Some qubits) None r a low some few capacity is = absurd (cc)
+parts_limits (Some number) None q r a low some few capacity is = absurd (cc)
+parts_limits None p q r a low some few capacity is = absurd (cc)
 
--- what a rehearsal that is asked for keeps
-record Kept (number qubits items : ℕ) (m : AskedMachine) : Type 0 where
-  few : AreFew number qubits items
-  capacity : HasCapacity m
+rehearse_limits : (words : List (List ℕ)) (a : Asked) → rehearse_of words ≡ Some a → IsWithinLimits a
+rehearse_limits [] a is = absurd (cc)
+rehearse_limits (v ∷ []) a is = absurd (cc)
+rehearse_limits (v ∷ w ∷ []) a is = absurd (cc)
+rehearse_limits (v ∷ w ∷ x ∷ []) a is = absurd (cc)
+rehearse_limits (v ∷ w ∷ x ∷ y ∷ []) a is =
+    parts_limits (number_named 0 2147483647 v) (number_named 1 256 w) (number_named 0 65536 x) (machine_of y) a
+    (λ n there. (named_within 0 2147483647 n v there).1) (λ n there. named_within 1 256 n w there) (λ n there. (named_within 0 65536 n x there).1)
+    (λ m there. machine_bounds (begins_with_at y) y m there) is
+rehearse_limits (v ∷ w ∷ x ∷ y ∷ z ∷ more) a is = absurd (cc)
 
-after_rehearse : (words : List (List ℕ)) (number qubits items : ℕ) (m : AskedMachine) (workers : ℕ) → rehearse_of words ≡ Some (AskedRehearse number qubits items m workers) → Kept number qubits items m
-after_rehearse [] number qubits items m workers is = absurd (cc)
-after_rehearse (a ∷ []) number qubits items m workers is = absurd (cc)
-after_rehearse (a ∷ b ∷ []) number qubits items m workers is = absurd (cc)
-after_rehearse (a ∷ b ∷ c ∷ []) number qubits items m workers is = absurd (cc)
-after_rehearse (a ∷ b ∷ c ∷ d ∷ []) number qubits items m workers is =
-    let parts = rehearse_parts (number_named 0 2147483647 a) (number_named 1 256 b) (number_named 0 65536 c) (machine_of d) number qubits items m workers is in
-    record {
-      few = ((named_within 0 2147483647 number a parts.number_is).1, (named_within 1 256 qubits b parts.qubits_is).0, (named_within 1 256 qubits b parts.qubits_is).1, (named_within 0 65536 items c parts.items_is).1);
-      capacity = machine_bounds (begins_with_at d) d m parts.machine_is;
-    }
-after_rehearse (a ∷ b ∷ c ∷ d ∷ e ∷ more) number qubits items m workers is = absurd (cc)
+-- by one test or else another
+by_test : (b : Bool) (o p : Option Asked) (a : Asked) → (o ≡ Some a → IsWithinLimits a) → (p ≡ Some a → IsWithinLimits a) → cond b o p ≡ Some a → IsWithinLimits a
+by_test true o p a here there is = here is
+by_test false o p a here there is = there is
 
-never_after_rehearse : (words : List (List ℕ)) (m : AskedMachine) (name : List ℕ) (workers : ℕ) (mode : Mode) → rehearse_of words ≡ Some (AskedRun m name workers mode) → ⊥
-never_after_rehearse [] m name workers mode is = absurd (cc)
-never_after_rehearse (a ∷ []) m name workers mode is = absurd (cc)
-never_after_rehearse (a ∷ b ∷ []) m name workers mode is = absurd (cc)
-never_after_rehearse (a ∷ b ∷ c ∷ []) m name workers mode is = absurd (cc)
-never_after_rehearse (a ∷ b ∷ c ∷ d ∷ []) m name workers mode is =
-    rehearse_only (number_named 0 2147483647 a) (number_named 1 256 b) (number_named 0 65536 c) (machine_of d) m name workers mode is
-never_after_rehearse (a ∷ b ∷ c ∷ d ∷ e ∷ more) m name workers mode is = absurd (cc)
-
--- a machine that is asked for by name has a capacity from 2 to 32
-pub asked_capacity : (words : List (List ℕ)) (m : AskedMachine) (name : List ℕ) (workers : ℕ) (mode : Mode) → request_of words ≡ Some (AskedRun m name workers mode) → HasCapacity m
-asked_capacity [] m name workers mode is = absurd (cc)
-asked_capacity (command ∷ words) m name workers mode is =
-    elim (by_command (bytes_eq command (codes "run")) (bytes_eq command (codes "rehearse")) (run_of words) (rehearse_of words) (AskedRun m name workers mode) is) [
-      | inl run ↦ after_run words m name workers mode run
-      | inr rehearse ↦ absurd (never_after_rehearse words m name workers mode rehearse)
-    ]
-
-rehearse_kept : (words : List (List ℕ)) (number qubits items : ℕ) (m : AskedMachine) (workers : ℕ) → request_of words ≡ Some (AskedRehearse number qubits items m workers) → Kept number qubits items m
-rehearse_kept [] number qubits items m workers is = absurd (cc)
-rehearse_kept (command ∷ words) number qubits items m workers is =
-    elim (by_command (bytes_eq command (codes "run")) (bytes_eq command (codes "rehearse")) (run_of words) (rehearse_of words) (AskedRehearse number qubits items m workers) is) [
-      | inl run ↦ absurd (never_after_run words number qubits items m workers run)
-      | inr rehearse ↦ after_rehearse words number qubits items m workers rehearse
-    ]
-
--- also for a rehearsal, which has few qubits and items
-pub rehearse_capacity : (words : List (List ℕ)) (number qubits items : ℕ) (m : AskedMachine) (workers : ℕ) → request_of words ≡ Some (AskedRehearse number qubits items m workers) → HasCapacity m
-rehearse_capacity words number qubits items m workers is = (rehearse_kept words number qubits items m workers is).capacity
-
-pub rehearse_few : (words : List (List ℕ)) (number qubits items : ℕ) (m : AskedMachine) (workers : ℕ) → request_of words ≡ Some (AskedRehearse number qubits items m workers) → AreFew number qubits items
-rehearse_few words number qubits items m workers is = (rehearse_kept words number qubits items m workers is).few
+-- a machine that is asked for by name has a capacity from 2 to 32, and a rehearsal has few qubits and items
+pub request-limits : (words : List (List ℕ)) (a : Asked) → request_of words ≡ Some a → IsWithinLimits a
+request-limits [] a is = absurd (cc)
+request-limits (command ∷ words) a is =
+    by_test (bytes_eq command (codes "run")) (run_of words) _ a (run_limits words a)
+    (by_test (bytes_eq command (codes "compile")) (compile_of words) _ a (compile_limits words a)
+    (by_test (bytes_eq command (codes "exec")) (exec_of words) _ a (exec_limits words a)
+    (by_test (bytes_eq command (codes "check")) (check_of words) _ a (check_limits words a)
+    (by_test (bytes_eq command (codes "rehearse")) (rehearse_of words) None a (rehearse_limits words a) (λ none. absurd (cc)))))) is

@@ -17,9 +17,13 @@ pub data AskedMachine : Type 0 where
   OfPreset : (preset : Preset) (capacity : ℕ) → AskedMachine
   OfFile : (name : List ℕ) → AskedMachine
 
--- a run on a machine of the circuit in a file, or of the circuit that is made from a number
+-- a command on a machine: the run of the circuit in a file, its program's text, the run of the program in a file, a
+-- program compared with a circuit, or the run of the circuit that is made from a number
 pub data Asked : Type 0 where
   AskedRun : (machine : AskedMachine) (circuit : List ℕ) (workers : ℕ) (mode : Mode) → Asked
+  AskedCompile : (machine : AskedMachine) (circuit : List ℕ) (mode : Mode) → Asked
+  AskedExec : (machine : AskedMachine) (program : List ℕ) (workers : ℕ) → Asked
+  AskedCheck : (machine : AskedMachine) (circuit program : List ℕ) → Asked
   AskedRehearse : (number qubits items : ℕ) (machine : AskedMachine) (workers : ℕ) → Asked
 
 -- the capacities that a word may give, from 2 to 32
@@ -67,16 +71,31 @@ mode_of [] = Some IonSwap
 mode_of (option ∷ value ∷ []) = if bytes_eq option (codes "--swap") then mode_named value else None
 mode_of _ = None
 
--- the run of this circuit, where a machine and a mode are asked for
-abbrev pub run_asked : List ℕ → Option AskedMachine → Option Mode → Option Asked
-run_asked circuit (Some machine) (Some mode) = Some (AskedRun machine circuit 4 mode)
-run_asked circuit machine None = None
-run_asked circuit None mode = None
+-- what is asked for where a machine and a mode are
+abbrev pub with_mode : (AskedMachine → Mode → Asked) → Option AskedMachine → Option Mode → Option Asked
+with_mode make (Some machine) (Some mode) = Some (make machine mode)
+with_mode make machine None = None
+with_mode make None mode = None
 
 -- what the words after `run` ask for
 abbrev pub run_of : List (List ℕ) → Option Asked
-run_of (machine ∷ circuit ∷ options) = run_asked circuit (machine_of machine) (mode_of options)
+run_of (machine ∷ circuit ∷ options) = with_mode (λ m mode. AskedRun m circuit 4 mode) (machine_of machine) (mode_of options)
 run_of _ = None
+
+-- what the words after `compile` ask for
+abbrev pub compile_of : List (List ℕ) → Option Asked
+compile_of (machine ∷ circuit ∷ options) = with_mode (λ m mode. AskedCompile m circuit mode) (machine_of machine) (mode_of options)
+compile_of _ = None
+
+-- what the words after `exec` ask for
+abbrev pub exec_of : List (List ℕ) → Option Asked
+exec_of (machine ∷ program ∷ []) = option_map (λ m. AskedExec m program 4) (machine_of machine)
+exec_of _ = None
+
+-- what the words after `check` ask for
+abbrev pub check_of : List (List ℕ) → Option Asked
+check_of (machine ∷ circuit ∷ program ∷ []) = option_map (λ m. AskedCheck m circuit program) (machine_of machine)
+check_of _ = None
 
 -- the number from low to high whose text the word is, with no leading zero and no sign
 abbrev pub number_named : (low high : ℕ) → List ℕ → Option ℕ
@@ -103,6 +122,9 @@ abbrev pub request_of : List (List ℕ) → Option Asked
 request_of [] = None
 request_of (command ∷ words) =
     if bytes_eq command (codes "run") then run_of words
+    else if bytes_eq command (codes "compile") then compile_of words
+    else if bytes_eq command (codes "exec") then exec_of words
+    else if bytes_eq command (codes "check") then check_of words
     else if bytes_eq command (codes "rehearse") then rehearse_of words
     else None
 
@@ -113,6 +135,9 @@ machine_asked (word.File name) = OfFile name.now
 
 abbrev pub asked : Command → Asked
 asked (command.Run machine circuit workers mode) = AskedRun (machine_asked machine) circuit.now workers mode
+asked (command.Compile machine circuit mode) = AskedCompile (machine_asked machine) circuit.now mode
+asked (command.Exec machine program workers) = AskedExec (machine_asked machine) program.now workers
+asked (command.Check machine circuit program) = AskedCheck (machine_asked machine) circuit.now program.now
 asked (command.Rehearse number qubits items machine workers) = AskedRehearse number qubits items (machine_asked machine) workers
 
 -- a capacity that is asked for is from 2 to 32
@@ -120,14 +145,14 @@ abbrev pub HasCapacity : AskedMachine → Type 0
 HasCapacity (OfPreset preset capacity) = (2 ≤ capacity) × (capacity ≤ 32)
 HasCapacity (OfFile name) = Unit {0}
 
-abbrev pub HasCapacityAsked : Command → Type 0
-HasCapacityAsked (command.Run machine circuit workers mode) = HasCapacity (machine_asked machine)
-HasCapacityAsked (command.Rehearse number qubits items machine workers) = HasCapacity (machine_asked machine)
-
 -- a circuit is made from a number up to a limit, and has 1 to 256 qubits and at most 65,536 items
 abbrev pub AreFew : (number qubits items : ℕ) → Type 0
 AreFew number qubits items = (number ≤ 2147483647) × (1 ≤ qubits) × (qubits ≤ 256) × (items ≤ 65536)
 
-abbrev pub AreFewAsked : Command → Type 0
-AreFewAsked (command.Run machine circuit workers mode) = Unit {0}
-AreFewAsked (command.Rehearse number qubits items machine workers) = AreFew number qubits items
+-- what is asked for is within these limits
+abbrev pub IsWithinLimits : Asked → Type 0
+IsWithinLimits (AskedRun machine circuit workers mode) = HasCapacity machine
+IsWithinLimits (AskedCompile machine circuit mode) = HasCapacity machine
+IsWithinLimits (AskedExec machine program workers) = HasCapacity machine
+IsWithinLimits (AskedCheck machine circuit program) = HasCapacity machine
+IsWithinLimits (AskedRehearse number qubits items machine workers) = HasCapacity machine × AreFew number qubits items

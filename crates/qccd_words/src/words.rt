@@ -1,7 +1,7 @@
 //! What the words of the command line ask for.
 
 ghost use Rattle.std.specs.Prelude.{◌≡◌, ℕ, ◌≤◌, ◌↔◌, map, Some, IfSome, option_map, string_bytes, decimal};
-ghost use Rattle.qccd_words.specs.Words.{asked, machine_asked, capacity_after, preset_named, machine_of, mode_named, mode_of, number_named, rehearse_of, request_of, run_of, HasCapacity, HasCapacityAsked, AreFewAsked};
+ghost use Rattle.qccd_words.specs.Words.{asked, machine_asked, capacity_after, preset_named, machine_of, mode_named, mode_of, number_named, check_of, compile_of, exec_of, rehearse_of, request_of, run_of, HasCapacity, IsWithinLimits};
 
 use qccd_base::{Mode, read_number};
 use qccd_machine::Preset;
@@ -41,6 +41,29 @@ pub enum Command<'a> {
         workers: u8,
         mode: Mode,
     },
+    /// Compile a circuit for a machine, and write the text of the program.
+    Compile {
+        machine: MachineWord<'a>,
+        /// The name of the circuit's file.
+        circuit: &'a str,
+        mode: Mode,
+    },
+    /// Run the program of a text on a machine.
+    Exec {
+        machine: MachineWord<'a>,
+        /// The name of the program's file.
+        program: &'a str,
+        /// How many workers run the program.
+        workers: u8,
+    },
+    /// Compare the program of a text, on a machine, with a circuit.
+    Check {
+        machine: MachineWord<'a>,
+        /// The name of the circuit's file.
+        circuit: &'a str,
+        /// The name of the program's file.
+        program: &'a str,
+    },
     /// Make a circuit from a number, compile it for a machine, and run the program.
     Rehearse {
         /// At most 2,147,483,647.
@@ -58,19 +81,22 @@ pub enum Command<'a> {
 /// What the words ask for, or `None` where they are of no form that is known. The words are those
 /// after the program's own name. It takes no memory.
 ///
-/// For now two forms are known. One is `run MACHINE CIRCUIT`, after which `--swap ion` or `--swap gate` may
-/// stand; where it does not, it is `ion`. The other is `rehearse NUMBER QUBITS ITEMS MACHINE`, with a number of
-/// at most 2,147,483,647, 1 to 256 qubits and at most 65,536 items. The machine is `@L6`, `@G2x3` or `@single`,
-/// or one of these with a colon and a capacity from 2 to 32, or any word that does not begin with `@`, which is
-/// the name of a file. No number has a sign or a leading zero. The circuit is any word as it stands. An empty
-/// word is the name of a file, too.
+/// For now five forms are known: `run MACHINE CIRCUIT` and `compile MACHINE CIRCUIT`, after each of which
+/// `--swap ion` or `--swap gate` may stand, where it does not, it is `ion`; `exec MACHINE PROGRAM`; `check MACHINE
+/// CIRCUIT PROGRAM`; and `rehearse NUMBER QUBITS ITEMS MACHINE`, with a number of at most 2,147,483,647, 1 to 256
+/// qubits and at most 65,536 items. The machine is `@L6`, `@G2x3` or `@single`, or one of these with a colon and a
+/// capacity from 2 to 32, or any word that does not begin with `@`, which is the name of a file. No number has a
+/// sign or a leading zero. The circuit and the program are any word as it stands. An empty word is the name of a
+/// file, too.
 pub fn request(words: &[String]) -> Option<Command<'_>>
     ensures asked { option_map asked result ≡ request_of (map string_bytes words.now) }
-    ensures capacity { IfSome result HasCapacityAsked }
-    ensures few { IfSome result AreFewAsked }
+    ensures limits { IfSome result (λ c. IsWithinLimits (asked c)) }
 {
     match words {
         [command, words @ ..] if command.as_str() == "run" => run_words(words),
+        [command, words @ ..] if command.as_str() == "compile" => compile_words(words),
+        [command, words @ ..] if command.as_str() == "exec" => exec_words(words),
+        [command, words @ ..] if command.as_str() == "check" => check_words(words),
         [command, words @ ..] if command.as_str() == "rehearse" => rehearsal_words(words),
         _ => None,
     }
@@ -79,8 +105,7 @@ pub fn request(words: &[String]) -> Option<Command<'_>>
 // The run that the words after the first one ask for.
 fn run_words(words: &[String]) -> Option<Command<'_>>
     ensures asked { option_map asked result ≡ run_of (map string_bytes words.now) }
-    ensures capacity { IfSome result HasCapacityAsked }
-    ensures few { IfSome result AreFewAsked }
+    ensures limits { IfSome result (λ c. IsWithinLimits (asked c)) }
 {
     match words {
         [machine, circuit, options @ ..] => Some(Command::Run {
@@ -93,11 +118,55 @@ fn run_words(words: &[String]) -> Option<Command<'_>>
     }
 }
 
+// The compiling that the words after the first one ask for.
+fn compile_words(words: &[String]) -> Option<Command<'_>>
+    ensures asked { option_map asked result ≡ compile_of (map string_bytes words.now) }
+    ensures limits { IfSome result (λ c. IsWithinLimits (asked c)) }
+{
+    match words {
+        [machine, circuit, options @ ..] => Some(Command::Compile {
+            machine: machine_word(machine.as_str())?,
+            circuit: circuit.as_str(),
+            mode: mode_words(options)?,
+        }),
+        _ => None,
+    }
+}
+
+// The run of a program that the words after the first one ask for.
+fn exec_words(words: &[String]) -> Option<Command<'_>>
+    ensures asked { option_map asked result ≡ exec_of (map string_bytes words.now) }
+    ensures limits { IfSome result (λ c. IsWithinLimits (asked c)) }
+{
+    match words {
+        [machine, program] => Some(Command::Exec {
+            machine: machine_word(machine.as_str())?,
+            program: program.as_str(),
+            workers: USUAL_WORKERS,
+        }),
+        _ => None,
+    }
+}
+
+// The comparison that the words after the first one ask for.
+fn check_words(words: &[String]) -> Option<Command<'_>>
+    ensures asked { option_map asked result ≡ check_of (map string_bytes words.now) }
+    ensures limits { IfSome result (λ c. IsWithinLimits (asked c)) }
+{
+    match words {
+        [machine, circuit, program] => Some(Command::Check {
+            machine: machine_word(machine.as_str())?,
+            circuit: circuit.as_str(),
+            program: program.as_str(),
+        }),
+        _ => None,
+    }
+}
+
 // The rehearsal that the words after the first one ask for.
 fn rehearsal_words(words: &[String]) -> Option<Command<'_>>
     ensures asked { option_map asked result ≡ rehearse_of (map string_bytes words.now) }
-    ensures capacity { IfSome result HasCapacityAsked }
-    ensures few { IfSome result AreFewAsked }
+    ensures limits { IfSome result (λ c. IsWithinLimits (asked c)) }
 {
     let [number, qubits, items, machine] = words else {
         return None;

@@ -106,6 +106,38 @@ fn reads_rehearsals(rt: HostRuntime) -> Result<(), Fail> {
 }
 
 #[test]
+fn reads_programs(rt: HostRuntime) -> Result<(), Fail> {
+    let machine = MachineWord::Preset(Preset::L6, 5);
+    for (text, mode) in [
+        ("compile @L6:5 a", Mode::IonSwap),
+        ("compile @L6:5 a --swap gate", Mode::GateSwap),
+    ] {
+        let words = words_of(rt.alloc(), text)?;
+        let asked = Command::Compile {
+            machine,
+            circuit: "a",
+            mode,
+        };
+        assert_eq!(rt; request(&words), Some(asked), "{text}");
+    }
+    let words = words_of(rt.alloc(), "exec @L6:5 p")?;
+    let asked = Command::Exec {
+        machine,
+        program: "p",
+        workers: 4,
+    };
+    assert_eq!(rt; request(&words), Some(asked));
+    let words = words_of(rt.alloc(), "check @L6:5 a p")?;
+    let asked = Command::Check {
+        machine,
+        circuit: "a",
+        program: "p",
+    };
+    assert_eq!(rt; request(&words), Some(asked));
+    Ok(())
+}
+
+#[test]
 fn reads_nothing_else(rt: HostRuntime) -> Result<(), Fail> {
     let none = Vec::new(rt.alloc());
     assert_eq!(rt; request(&none), None);
@@ -128,7 +160,11 @@ fn reads_nothing_else(rt: HostRuntime) -> Result<(), Fail> {
         "run @single a --swap both",
         "run @single a --swap ion --swap ion",
         "runs @single a",
-        "exec @single p",
+        "exec @single",
+        "exec @single p --swap ion",
+        "compile @single",
+        "check @single a",
+        "check @single a p --swap ion",
         "rehearse 1 0 4 @L6",
         "rehearse 2147483648 3 4 @L6",
         "rehearse 1 257 4 @L6",

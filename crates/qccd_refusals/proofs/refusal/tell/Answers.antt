@@ -45,6 +45,22 @@ returns-in-TooLong g c =
     let third = c.as_bytes-in-TooLong-3.ensures.value ∙ c.deref-in-TooLong-3.ensures.0 ∙ c.number_text-in-TooLong-3.ensures ∙ ap decimal c.into-in-TooLong-3.ensures in
     rw (c.in-TooLong.is, ← first, ← second, ← third) c.send_all-in-TooLong.ensures
 
+pub returns-in-Asm : goal.returns-in-Asm
+returns-in-Asm g c =
+    let first = c.as_bytes-in-Asm.ensures.value ∙ c.deref-in-Asm.ensures.0 ∙ c.number_text-in-Asm.ensures ∙ ap decimal c.into-in-Asm.ensures in
+    let second = c.as_bytes-in-Asm-2.ensures.value ∙ c.text-in-Asm.ensures in
+    rw (c.in-Asm.is, ← first, ← second) c.send_all-in-Asm.ensures
+
+pub returns-in-Load : goal.returns-in-Load
+returns-in-Load g c =
+    let first = c.as_bytes-in-Load.ensures.value ∙ c.deref-in-Load.ensures.0 ∙ c.text-in-Load.ensures in
+    rw (c.in-Load.is, ← first) c.send_all-in-Load.ensures
+
+pub returns-in-NotSame : goal.returns-in-NotSame
+returns-in-NotSame g c =
+    let first = c.as_bytes-in-NotSame.ensures.value ∙ c.deref-in-NotSame.ensures.0 ∙ c.text-in-NotSame.ensures in
+    rw (c.in-NotSame.is, ← first) c.send_all-in-NotSame.ensures
+
 pub returns-in-NoMemory : goal.returns-in-NoMemory
 returns-in-NoMemory g c =
     rw c.in-NoMemory.is c.send_all-in-NoMemory.ensures

@@ -7,7 +7,7 @@ use Rattle.rehearsal.specs.Generated.{generated}
 use Rattle.rehearsal.proofs.Circuits.{generated_circuit, length-drawn}
 use Rattle.tracer.specs.Summary.{summary_text}
 use Rattle.qccd_words.specs.Words.{AskedRehearse}
-use Rattle.qccd_words.proofs.Capacities.{rehearse_capacity, rehearse_few}
+use Rattle.qccd_words.proofs.Capacities.{request-limits}
 use Rattle.qccd_top.specs.Stage.{◌>>=◌}
 use Rattle.qccd_top.proofs.Headline.{accepted, valid_in}
 use Rattle.qccd_top.proofs.laws.accepted_rehearsal.Goals as goal
@@ -17,8 +17,9 @@ unfolding ◌>>=◌
 returns c = λ words held number qubits items machine workers m reading given fits short.
     let d = generated number qubits items in
     let p : ProgramData = chosen d m IonSwap in
-    let few = rehearse_few words number qubits items machine workers reading in
-    let valid = valid_in (Some held) machine m (rehearse_capacity words number qubits items machine workers reading) given in
+    let limits = request-limits words (AskedRehearse number qubits items machine workers) reading in
+    let few = limits.1 in
+    let valid = valid_in (Some held) machine m limits.0 given in
     let whole = generated_circuit number qubits items few.1 few.2 few.3 in
     let least = subst (λ (n : ℕ). n * worst_of m ≤ 4194304) (sym (length-drawn qubits number items)) short in
     inl (

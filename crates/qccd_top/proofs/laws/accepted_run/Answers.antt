@@ -4,7 +4,7 @@ use Rattle.claim_core.specs.Program.{ProgramData}
 use Rattle.compiler.specs.Chosen.{chosen}
 use Rattle.tracer.specs.Report.{report_text}
 use Rattle.qccd_words.specs.Words.{AskedRun}
-use Rattle.qccd_words.proofs.Capacities.{asked_capacity}
+use Rattle.qccd_words.proofs.Capacities.{request-limits}
 use Rattle.qccd_top.specs.Stage.{◌>>=◌}
 use Rattle.qccd_top.proofs.Headline.{accepted, valid_in}
 use Rattle.qccd_top.proofs.laws.accepted_run.Goals as goal
@@ -13,7 +13,7 @@ pub returns : goal.returns
 unfolding ◌>>=◌
 returns c = λ words held machine circuit text workers mode m d reading given there few reads fits short.
     let p : ProgramData = chosen d m mode in
-    let valid = valid_in (Some held) machine m (asked_capacity words machine circuit workers mode reading) given in
+    let valid = valid_in (Some held) machine m (request-limits words (AskedRun machine circuit workers mode) reading) given in
     inl (
       report_text p,
       (

@@ -2,7 +2,7 @@ use Rattle.std.proofs.Common.{◌∙◌, sym, ap}
 use Rattle.qccd_refusals.specs.Cause.{status_of}
 use Rattle.qccd_top.specs.Call.{call_of, output}
 use Rattle.qccd_top.proofs.Dues.{done_exact, refused_exact}
-use Rattle.qccd_top.proofs.Headline.{headline, cut, rehearsed}
+use Rattle.qccd_top.proofs.Headline.{headline, cut, program_written, executed, same_told, rehearsed}
 use Rattle.qccd_top.proofs.Judged.{words_cause}
 use Rattle.qccd_top.proofs.top.run.Goals as goal
 
@@ -15,6 +15,15 @@ returns-in-Err-clause-words g c =
 
 pub returns-in-Ok-clause-headline : goal.returns-in-Ok-clause-headline
 returns-in-Ok-clause-headline g c = λ asks zero. headline _ asks c.in-Ok.ensures.does.did
+
+pub returns-in-Ok-clause-compiled : goal.returns-in-Ok-clause-compiled
+returns-in-Ok-clause-compiled g c = λ asks zero. program_written _ asks c.in-Ok.ensures.does.did
+
+pub returns-in-Ok-clause-executed : goal.returns-in-Ok-clause-executed
+returns-in-Ok-clause-executed g c = λ asks zero. executed _ asks c.in-Ok.ensures.does.did
+
+pub returns-in-Ok-clause-checked : goal.returns-in-Ok-clause-checked
+returns-in-Ok-clause-checked g c = λ asks zero. same_told _ asks c.in-Ok.ensures.does.did
 
 pub returns-in-Ok-clause-rehearsed : goal.returns-in-Ok-clause-rehearsed
 returns-in-Ok-clause-rehearsed g c = λ asks zero. rehearsed _ asks c.in-Ok.ensures.does.did
@@ -31,4 +40,4 @@ returns-in-Err-clause-exact g c = λ held due tells is.
     held _ due tells c.in-Err.ensures.does.did is)
 
 pub returns-in-Err-clause-cut : goal.returns-in-Err-clause-cut
-returns-in-Err-clause-cut g c = λ asks four. cut _ _ asks c.in-Err.ensures.does.did (sym c.status-status.ensures ∙ four)
+returns-in-Err-clause-cut g c = λ asks four. cut _ asks _ c.in-Err.ensures.does.did (sym c.status-status.ensures ∙ four)

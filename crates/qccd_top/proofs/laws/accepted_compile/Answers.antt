@@ -1,0 +1,25 @@
+use Rattle.std.proofs.Common.{Some, refl, inl, inr}
+use Rattle.qasm_reader.proofs.Answered.{keeps_the_rule}
+use Rattle.claim_core.specs.Program.{ProgramData}
+use Rattle.compiler.specs.Chosen.{chosen}
+use Rattle.transport_asm.specs.ProgramText.{program_text}
+use Rattle.qccd_words.specs.Words.{AskedCompile}
+use Rattle.qccd_words.proofs.Capacities.{request-limits}
+use Rattle.qccd_top.specs.Stage.{◌>>=◌}
+use Rattle.qccd_top.proofs.Headline.{accepted, valid_in}
+use Rattle.qccd_top.proofs.laws.accepted_compile.Goals as goal
+
+pub returns : goal.returns
+unfolding ◌>>=◌
+returns c = λ words held machine circuit text mode m d reading given there few reads fits short.
+    let p : ProgramData = chosen d m mode in
+    let valid = valid_in (Some held) machine m (request-limits words (AskedCompile machine circuit mode) reading) given in
+    inl (
+      program_text p,
+      (
+        AskedCompile machine circuit mode,
+        reading,
+        (p, (m, given, (d, (text, (there, few), reads), accepted d m mode (keeps_the_rule text d reads) valid fits short)), refl),
+      ),
+      refl,
+    )
