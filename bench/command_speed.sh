@@ -1,8 +1,9 @@
 #!/bin/sh
-# How much processor time `run` takes on circuits of 65,536 gates, beside a count of words of the report that
-# it writes, and what memory. It checks nothing, and no test runs it.
+# How much processor time the commands take on circuits of 65,536 gates and on a program of more than two million
+# operations, beside a count of words of what they read and write, and what memory. It checks nothing, and no test
+# runs it.
 #
-#   bench/run_speed.sh
+#   bench/command_speed.sh
 #
 # The program is ./qccd, which has to be built.
 set -u
@@ -13,7 +14,7 @@ if ! [ -x "$program" ]; then
     echo "the program is not built yet: call ./qccd once" >&2
     exit 1
 fi
-folder=$(mktemp -d "${TMPDIR:-/tmp}/run-speed.XXXXXX") || exit 1
+folder=$(mktemp -d "${TMPDIR:-/tmp}/command-speed.XXXXXX") || exit 1
 trap 'rm -rf "$folder"' EXIT
 
 # The circuit of 65,536 items that `rehearse 7 QUBITS 65536` makes, as a text.
@@ -71,24 +72,57 @@ row() {
     }'
 }
 
+# The same program as a text: written, run, and compared with the circuit. Each beside a count of words: of what
+# is written, of the text and the report, of what is read.
+compiled() {
+    set -- $(measure "$program" compile "$1" "$folder/circuit")
+    mv "$folder/out" "$folder/program"
+    took=$1
+    set -- $(measure wc "$folder/program")
+    awk -v took="$took" -v words="$1" 'BEGIN { printf "    compile %.3f s, %.2f of wc\n", took, words ? took / words : 0 }'
+}
+
+executed() {
+    set -- $(measure "$program" exec "$1" "$folder/program")
+    cmp -s "$folder/out" "$folder/report" || echo "    exec wrote another report" >&2
+    took=$1
+    memory=$2
+    set -- $(measure wc "$folder/program" "$folder/report")
+    awk -v took="$took" -v words="$1" -v memory="$memory" 'BEGIN { printf "    exec %.3f s, %.2f of wc, %d MB\n", took, words ? took / words : 0, memory / 1024 }'
+}
+
+checked() {
+    set -- $(measure "$program" check "$1" "$folder/circuit" "$folder/program")
+    took=$1
+    set -- $(measure wc "$folder/circuit" "$folder/program")
+    awk -v took="$took" -v words="$1" 'BEGIN { printf "    check %.3f s, %.2f of wc\n", took, words ? took / words : 0 }'
+}
+
 # The same from the number: no text of a circuit, and a summary in place of the report.
 rehearsed() {
     set -- $(measure "$program" rehearse 7 "$1" 65536 "$2")
     awk -v took="$1" -v words="$words" 'BEGIN { printf "    rehearse %.3f s, %.2f of wc\n", took, words ? took / words : 0 }'
 }
 
+all_of() {
+    row "$1" "$2"
+    compiled "$2"
+    executed "$2"
+    checked "$2"
+}
+
 circuit 32 >"$folder/circuit"
-row "@single:32, 32 qubits" @single:32
+all_of "@single:32, 32 qubits" @single:32
 rehearsed 32 @single:32
 circuit 95 >"$folder/circuit"
-row "@L6:16, 95 qubits" @L6:16
+all_of "@L6:16, 95 qubits" @L6:16
 rehearsed 95 @L6:16
 circuit 64 >"$folder/circuit"
-row "@G2x3:16, 64 qubits" @G2x3:16
+all_of "@G2x3:16, 64 qubits" @G2x3:16
 rehearsed 64 @G2x3:16
 circuit 95 >"$folder/circuit"
-row "@G2x3:16, 95 qubits" @G2x3:16
+all_of "@G2x3:16, 95 qubits" @G2x3:16
 rehearsed 95 @G2x3:16
 line >"$folder/machine"
 far 8000 >"$folder/circuit"
-row "a line of 32 traps of 2, 33 qubits" "$folder/machine"
+all_of "a line of 32 traps of 2, 33 qubits" "$folder/machine"
