@@ -19,3 +19,4 @@ pub mod Ends
 pub mod Mentions
 pub mod Reached
 pub mod Answered
+pub mod Unconditional

@@ -1,6 +1,6 @@
 //! What holds of every text. Each function does nothing: its contract is the law.
 
-ghost use Rattle.std.specs.Prelude.{◌≡◌, ◌⊎◌, ℕ, List};
+ghost use Rattle.std.specs.Prelude.{◌≡◌, ◌⊎◌, ℕ, List, All, None};
 ghost use Rattle.qccd_circuit.specs.Circuit.{CircuitData, IsCircuit};
 ghost use Rattle.qasm_reader.specs.declared.fault.QasmKind.{QasmKind};
 ghost use Rattle.qasm_reader.specs.Reading.{IsCircuitOf, IsRefusedAt};
@@ -29,4 +29,9 @@ pub fn not_both()
 /// are not too many of anything.
 pub fn keeps_the_rule()
     ensures { (text : List ℕ) (c : CircuitData) → IsCircuitOf text c → IsCircuit c }
+{}
+
+/// No item of the circuit of a text is conditional.
+pub fn no_conditions()
+    ensures { (text : List ℕ) (c : CircuitData) → IsCircuitOf text c → All (λ d. d.cond ≡ None) c.items }
 {}
