@@ -212,10 +212,10 @@ pub fn files_given()
 {}
 
 /// What the run of a program in a file writes, where its text is the one that compiling writes, is what the run of
-/// the circuit writes. No item of the circuit is conditional.
+/// the circuit writes.
 pub fn runs_what_is_compiled()
-    ensures { (held : Holding) (machine : AskedMachine) (circuit program text report : List ℕ) (mode : Mode) (workers others : ℕ) (c : CircuitData)
-        → HasCapacity machine → CircuitIn (Some held) circuit (Gives c) → All (λ d. d.cond ≡ None) c.items
+    ensures { (held : Holding) (machine : AskedMachine) (circuit program text report : List ℕ) (mode : Mode) (workers others : ℕ)
+        → HasCapacity machine
         → TextOf (Some held) (AskedCompile machine circuit mode) (Gives text) → TextOf (Some held) (AskedRun machine circuit workers mode) (Gives report)
         → held.file program ≡ Some text → length text ≤ 268435456
         → TextOf (Some held) (AskedExec machine program others) (Gives report) }
