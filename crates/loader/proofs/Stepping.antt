@@ -17,6 +17,7 @@ use Rattle.op_table.specs.Step.{why}
 use Rattle.loader.specs.declared.faults.LoadFault.{LoadFault}
 use Rattle.loader.specs.declared.faults.LoadFault.TheVariants.{Illegal, ItemTwice}
 use Rattle.loader.specs.Refusal.{does_item, does_again, fault_behind}
+use Rattle.transport_asm.proofs.Marked.{same_key}
 use Rattle.loader.specs.Marked.{AreDone}
 use Rattle.loader.proofs.Firsts.{some_none}
 use Rattle.loader.proofs.NoFaults.{Numbered, is_number, does_more}
@@ -34,16 +35,6 @@ pub told_none : (m : MachineData) (s : State) (earlier : List OpKind) (k : ℕ) 
 told_none m s earlier k op new legal = ap₂ (told_of k) new legal
 
 -- ---- the items that were done
-
-same_key : (a b : ℕ) → is_eq (nat_cmp a b) ≡ (a == b)
-same_key a b = elim (cases_Bool (nat_lt a b)) [
-  | inl below ↦ rw below (elim (eqb_tells a b) [ inl same ↦ absurd (omega (arith, ltb-true a b below, same.1)) | inr apart ↦ sym apart.0 ])
-  | inr not_below ↦ rw not_below (by_test (a == b))
-]
-  where
-    by_test : (t : Bool) → is_eq (cond t Equal Greater) ≡ t
-    by_test true = refl
-    by_test false = refl
 
 or_false : (b : Bool) → (b || false) ≡ b
 or_false true = refl

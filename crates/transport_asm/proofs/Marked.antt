@@ -1,15 +1,18 @@
--- Marks for the qubits of a list.
-use Rattle.std.proofs.Common.{◌≡◌, ℕ, zero, suc, ◌+◌, ◌<◌, ◌≤◌, Bool, true, false, not, ◌&&◌, ◌||◌, ◌==◌, List, [], ◌∷◌, ◌++◌, length, set, get_or, Option, Some, None, Result, Ok, Err, refl, sym, ap, ◌∙◌, subst, arith, append_assoc}
-use Rattle.std.specs.Prelude.{slice_index_or}
+-- The qubits of a list that were seen.
+use Rattle.std.proofs.Common.{◌≡◌, ℕ, zero, suc, ◌+◌, ◌<◌, ◌≤◌, nat_lt, Bool, true, false, cond, not, ◌&&◌, ◌||◌, ◌==◌, List, [], ◌∷◌, ◌++◌, length, Option, Some, None, Result, Ok, Err, refl, sym, ap, ap₂, ◌∙◌, subst, arith, append_assoc}
+use Rattle.std.specs.List.{list_any}
+use Rattle.std.specs.BTreeMap.{is_at}
+use Rattle.std.specs.BTreeSet.{BTreeSet, contains, keys, Updates}
+use Rattle.std.specs.Ordering.{nat_cmp, is_eq}
+use Rattle.std.specs.declared.cmp.Ordering.TheVariants.{Equal, Greater}
 use Rattle.std.proofs.Common.{inl, inr}
 use Rattle.std.specs.Prelude.{if◌then◌else◌, is_some, option_copied}
 use denote.Ref.{Bor}
 use Rattle.transport_asm.specs.Lines.{words_of}
 use Rattle.transport_asm.specs.Shapes.{is_end}
 use Rattle.transport_asm.proofs.Cut.{has_word}
-use Rattle.std.proofs.lemmas.List.{append-nil, get_or-set_same, get_or-set_other}
-use Rattle.std.proofs.lemmas.Option.{get_or_from_slice_get, slice_get_read}
-use Rattle.std.proofs.lemmas.Bool.{ne_eqb}
+use Rattle.std.proofs.lemmas.List.{append-nil}
+use Rattle.std.proofs.lemmas.Bool.{cases_Bool, ltb-true, ne_eqb}
 use Rattle.std.proofs.lemmas.Bool.Decides.{eqb_tells}
 use Rattle.qccd_base.specs.Names.{qubit}
 use Rattle.qccd_base.specs.declared.names.Qubit.{Qubit}
@@ -61,50 +64,51 @@ distinct-push (p ∷ qs) q =
     shuffle false false true b = refl
     shuffle false false false b = refl
 
-pub dropped : (front : List Qubit) (broken : Bool) (seen : List Bool) (qubits : List Qubit) (q : Qubit) → broken ≡ true → IsKept front broken seen qubits → are_distinct (front ++ q ∷ []) ≡ false
+pub dropped : (front : List Qubit) (broken : Bool) (seen : BTreeSet ℕ) (qubits : List Qubit) (q : Qubit) → broken ≡ true → IsKept front broken seen qubits → are_distinct (front ++ q ∷ []) ≡ false
 dropped front true seen qubits q is kept = distinct-push front q ∙ rw kept refl
 dropped front false seen qubits q is kept = absurd cc
 
-pub kept_so : (front : List Qubit) (broken : Bool) (seen : List Bool) (qubits : List Qubit) → broken ≡ false → IsKept front broken seen qubits → AreMarked front seen qubits
+pub kept_so : (front : List Qubit) (broken : Bool) (seen : BTreeSet ℕ) (qubits : List Qubit) → broken ≡ false → IsKept front broken seen qubits → AreMarked front seen qubits
 kept_so front true seen qubits is kept = absurd cc
 kept_so front false seen qubits is kept = kept
 
--- what is read at an index
-pub read_at : (xs : List Bool) (i n : ℕ) (b : Bool) → b ≡ get_or xs i b → i < length xs → i ≡ n → slice_index_or xs n false ≡ b
-read_at xs i n b read below is = subst (λ (k : ℕ). slice_index_or xs k false ≡ b) is (get_or_from_slice_get xs i b false (slice_get_read xs (length xs) i b refl below read))
+pub same_key : (a b : ℕ) → is_eq (nat_cmp a b) ≡ (a == b)
+same_key a b = elim (cases_Bool (nat_lt a b)) [
+  | inl below ↦ rw below (elim (eqb_tells a b) [ inl same ↦ absurd (omega (arith, ltb-true a b below, same.1)) | inr apart ↦ sym apart.0 ])
+  | inr not_below ↦ rw not_below (by_test (a == b))
+]
+  where
+    by_test : (t : Bool) → is_eq (cond t Equal Greater) ≡ t
+    by_test true = refl
+    by_test false = refl
 
-pub twice : (front : List Qubit) (q : Qubit) (seen : List Bool) (qubits : List Qubit) → AreMarked front seen qubits → q.0 < 65536 → slice_index_or seen q.0 false ≡ true → are_distinct (front ++ q ∷ []) ≡ false
-twice front q seen qubits marked small is =
-    let has : has_qubit front q ≡ true = sym (marked.marks q.0 small) ∙ is in
+pub twice : (front : List Qubit) (q : Qubit) (seen : BTreeSet ℕ) (qubits : List Qubit) → AreMarked front seen qubits → contains nat_cmp seen q.0 ≡ true → are_distinct (front ++ q ∷ []) ≡ false
+twice front q seen qubits marked is =
+    let has : has_qubit front q ≡ true = sym (marked.marks q.0) ∙ is in
     distinct-push front q ∙ rw (marked.distinct, has) refl
 
-same : (a : ℕ) → (a == a) ≡ true
-same a = elim (eqb_tells a a) [ inl both ↦ both.0 | inr other ↦ absurd (other.1 refl) ]
-
-or-false : (b : Bool) → (b || false) ≡ b
-or-false true = refl
-or-false false = refl
-
-pub once : (front : List Qubit) (q : Qubit) (seen : List Bool) (qubits : List Qubit) → AreMarked front seen qubits → length seen ≡ 65536 → q.0 < 65536 → slice_index_or seen q.0 false ≡ false
-    → AreMarked (front ++ q ∷ []) (set seen q.0 true) (qubits ++ q ∷ [])
-once front q seen qubits marked len small is =
-    let has : has_qubit front q ≡ false = sym (marked.marks q.0 small) ∙ is in
+pub once : (front : List Qubit) (q : Qubit) (old new : BTreeSet ℕ) (qubits : List Qubit) → AreMarked front old qubits → contains nat_cmp old q.0 ≡ false → Updates nat_cmp old new q.0 true
+    → AreMarked (front ++ q ∷ []) new (qubits ++ q ∷ [])
+once front q old new qubits marked is updates =
+    let has : has_qubit front q ≡ false = sym (marked.marks q.0) ∙ is in
     record {
       kept = ap (λ (qs : List Qubit). qs ++ q ∷ []) marked.kept;
       distinct = distinct-push front q ∙ rw (marked.distinct, has) refl;
-      marks = λ n below. elim (eqb_tells q.0 n) [
-        | inl here ↦ subst (λ (k : ℕ). slice_index_or (set seen q.0 true) k false ≡ has_qubit (front ++ q ∷ []) (qubit k)) here.1
-            (get_or-set_same seen q.0 true false (omega (arith, len)) ∙ sym (has-push front q (qubit q.0) ∙ rw has (same q.0)))
-        | inr other ↦ get_or-set_other seen q.0 n true false (λ e. other.1 (sym e)) ∙ marked.marks n below ∙ sym (has-push front q (qubit n) ∙ ap (λ (b : Bool). has_qubit front (qubit n) || b) other.0 ∙ or-false (has_qubit front (qubit n)))
-      ];
+      marks = λ n. updates.0 n ∙ ap₂ (λ (t b : Bool). cond t true b) (same_key q.0 n) (marked.marks n) ∙ by_test (q.0 == n) (has_qubit front (qubit n)) ∙ sym (has-push front q (qubit n));
     }
+  where
+    by_test : (t b : Bool) → cond t true b ≡ (b || t)
+    by_test true true = refl
+    by_test true false = refl
+    by_test false true = refl
+    by_test false false = refl
 
 -- ---- reading the qubits one by one
 
 abbrev pub with_front : List Qubit → Reading (List Qubit) → Reading (List Qubit)
 with_front front read = read >>= λ x. Ok (front ++ x.0, x.1)
 
-pub record SoFar (broken : Bool) (seen : List Bool) (qubits : List Qubit) (rest total : Reading (List Qubit)) : Type 0 where
+pub record SoFar (broken : Bool) (seen : BTreeSet ℕ) (qubits : List Qubit) (rest total : Reading (List Qubit)) : Type 0 where
   pub front : List Qubit
   pub read : with_front front rest ≡ total
   pub kept : IsKept front broken seen qubits
@@ -126,11 +130,11 @@ step_err : (kind : AsmKind) (ws : List (List ℕ)) (front : List Qubit) → 0 < 
 step_err kind [] front some e = absurd (omega arith)
 step_err kind (word ∷ ws) front some e = rw e refl
 
-pub SoFar-refused : (broken : Bool) (seen : List Bool) (qubits : List Qubit) (kind : AsmKind) (ws : List (List ℕ)) (total : Reading (List Qubit)) → 0 < length ws → read_one qubit_slot ws ≡ Err kind → SoFar broken seen qubits (qubits_at ws) total
+pub SoFar-refused : (broken : Bool) (seen : BTreeSet ℕ) (qubits : List Qubit) (kind : AsmKind) (ws : List (List ℕ)) (total : Reading (List Qubit)) → 0 < length ws → read_one qubit_slot ws ≡ Err kind → SoFar broken seen qubits (qubits_at ws) total
     → (total >>= when_distinct) ≡ Err kind
 SoFar-refused broken seen qubits kind ws total some e so_far = rw (sym so_far.read ∙ step_err kind ws so_far.front some e) refl
 
-pub SoFar-ends : (broken : Bool) (seen : List Bool) (qubits : List Qubit) (total : Reading (List Qubit)) → SoFar broken seen qubits (Ok ([], [])) total → (total >>= when_distinct) ≡ Ok (if broken then None else Some qubits)
+pub SoFar-ends : (broken : Bool) (seen : BTreeSet ℕ) (qubits : List Qubit) (total : Reading (List Qubit)) → SoFar broken seen qubits (Ok ([], [])) total → (total >>= when_distinct) ≡ Ok (if broken then None else Some qubits)
 SoFar-ends true seen qubits total so_far =
     let read : total ≡ Ok (so_far.front ++ [], []) = sym so_far.read in
     rw (read, append-nil so_far.front, so_far.kept) refl
@@ -142,10 +146,11 @@ again : (read : Reading (List Qubit)) → with_front [] read ≡ read
 again (Ok x) = refl
 again (Err e) = refl
 
-pub SoFar-begins : (seen : List Bool) (read : Reading (List Qubit)) → ((k : ℕ) → slice_index_or seen k false ≡ false) → SoFar false seen [] read read
-SoFar-begins seen read unset = record { front = []; read = again read; kept = record { kept = refl; distinct = refl; marks = λ n below. unset n } }
+pub SoFar-begins : (seen : BTreeSet ℕ) (read : Reading (List Qubit)) → keys seen ≡ [] → SoFar false seen [] read read
+SoFar-begins seen read empty =
+    record { front = []; read = again read; kept = record { kept = refl; distinct = refl; marks = λ n. ap (list_any (is_at (nat_cmp n))) empty } }
 
-pub SoFar-next : (broken now : Bool) (seen seen_now : List Bool) (qubits qubits_now : List Qubit) (q : Qubit) (ws more : List (List ℕ)) (total : Reading (List Qubit)) → read_one qubit_slot ws ≡ Ok (q, more)
+pub SoFar-next : (broken now : Bool) (seen seen_now : BTreeSet ℕ) (qubits qubits_now : List Qubit) (q : Qubit) (ws more : List (List ℕ)) (total : Reading (List Qubit)) → read_one qubit_slot ws ≡ Ok (q, more)
     → ((front : List Qubit) → IsKept front broken seen qubits → IsKept (front ++ q ∷ []) now seen_now qubits_now)
     → SoFar broken seen qubits (qubits_at ws) total → SoFar now seen_now qubits_now (qubits_at more) total
 SoFar-next broken now seen seen_now qubits qubits_now q ws more total e kept so_far =
@@ -159,7 +164,7 @@ left_some (Some line) is = some_end (words_of line.now) (has_word (λ b. b == 32
     some_end [] e = absurd cc
     some_end (w ∷ ws) e = omega arith
 
-pub finish : (broken : Bool) (seen : List Bool) (qubits : List Qubit) (x : Option (Bor (List ℕ))) (total : Reading (List Qubit)) → is_some x ≡ false → SoFar broken seen qubits (qubits_at (words_left (option_copied x))) total
+pub finish : (broken : Bool) (seen : BTreeSet ℕ) (qubits : List Qubit) (x : Option (Bor (List ℕ))) (total : Reading (List Qubit)) → is_some x ≡ false → SoFar broken seen qubits (qubits_at (words_left (option_copied x))) total
     → (total >>= when_distinct) ≡ Ok (if broken then None else Some qubits)
 finish broken seen qubits None total is so_far = SoFar-ends broken seen qubits total so_far
 finish broken seen qubits (Some line) total is so_far = absurd cc

@@ -1,5 +1,7 @@
--- The words of a fence as they are read, each qubit marked once it was.
-use Rattle.std.specs.Prelude.{◌≡◌, ℕ, ◌<◌, nat_lt, Bool, true, false, if◌then◌else◌, slice_index_or, List, [], ◌∷◌, Option, Some, None, Result, Ok, Err}
+-- The words of a fence as they are read, each qubit noted once it was.
+use Rattle.std.specs.Prelude.{◌≡◌, ℕ, nat_lt, Bool, true, false, if◌then◌else◌, List, [], ◌∷◌, Option, Some, None, Result, Ok, Err}
+use Rattle.std.specs.BTreeSet.{BTreeSet, contains}
+use Rattle.std.specs.Ordering.{nat_cmp}
 use Rattle.qccd_base.specs.Names.{qubit}
 use Rattle.qccd_base.specs.declared.names.Qubit.{Qubit}
 use Rattle.qccd_circuit.specs.Item.{are_distinct, has_qubit}
@@ -21,13 +23,13 @@ when_distinct qs = Ok (if are_distinct qs.0 then Some qs.0 else None)
 abbrev pub fence_qubits : List (List ℕ) → Result (Option (List Qubit)) AsmKind
 fence_qubits words = qubits_at words >>= when_distinct
 
--- what is known of the qubits in front: where none stands twice, they are kept, with a mark for each
-pub record AreMarked (front : List Qubit) (seen : List Bool) (qubits : List Qubit) : Type 0 where
+-- what is known of the qubits in front: where none stands twice, they are kept, and their numbers are seen
+pub record AreMarked (front : List Qubit) (seen : BTreeSet ℕ) (qubits : List Qubit) : Type 0 where
   pub kept : qubits ≡ front
   pub distinct : are_distinct front ≡ true
-  pub marks : (n : ℕ) → n < 65536 → slice_index_or seen n false ≡ has_qubit front (qubit n)
+  pub marks : (n : ℕ) → contains nat_cmp seen n ≡ has_qubit front (qubit n)
 
-abbrev pub IsKept : List Qubit → Bool → List Bool → List Qubit → Type 0
+abbrev pub IsKept : List Qubit → Bool → BTreeSet ℕ → List Qubit → Type 0
 IsKept front true seen qubits = are_distinct front ≡ false
 IsKept front false seen qubits = AreMarked front seen qubits
 

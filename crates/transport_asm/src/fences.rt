@@ -1,6 +1,6 @@
 //! The words of fences.
 
-ghost use Rattle.std.specs.Prelude.{◌≡◌, ℕ, Ok, ◌<◌, List, [], ◌∷◌, ◌++◌, false, slice_index_or, length, IfOk, option_copied, option_map};
+ghost use Rattle.std.specs.Prelude.{◌≡◌, Ok, ◌<◌, List, [], ◌∷◌, ◌++◌, IfOk, option_copied, option_map};
 ghost use Rattle.qccd_base.specs.declared.names.Qubit.{Qubit};
 ghost use Rattle.transport_asm.specs.Cursor.{words_left, size_left, Gives, GivesOp};
 ghost use Rattle.transport_asm.specs.Marks.{IsKept, begins_trap, fence_qubits, traps_behind, some_qubits, fence_parts, is_below_first, fence_made};
@@ -19,8 +19,7 @@ use op_table::OpKind;
 use qccd_base::{BitList, NoMemory, Qubit, QubitList, TrapId, TrapList};
 use qccd_circuit::{AngleList, Item, ItemKind, Name};
 use std::alloc::{AllocError, Global};
-
-const QUBITS: usize = 65536;
+use std::collections::BTreeSet;
 
 fn qubit_at(words: Option<&[u8]>) -> Result<(Qubit, Option<&[u8]>), AsmKind>
     ensures exact { Gives (λ x. (x.0, words_left (option_copied x.1))) result (read_one qubit_slot (words_left (option_copied words.entry))) }
@@ -31,34 +30,22 @@ fn qubit_at(words: Option<&[u8]>) -> Result<(Qubit, Option<&[u8]>), AsmKind>
     Ok((Qubit(number as u16), rest))
 }
 
-// So many marks, none of them set.
-fn no_marks(alloc: Global, n: usize) -> Result<Vec<bool>, AllocError>
-    ensures len { IfOk result (λ v. length v.items ≡ n) }
-    ensures unset { IfOk result (λ v. (k : ℕ) → slice_index_or v.items k false ≡ false) }
-{
-    vec![in alloc; false; n]
-}
-
 // Keeps a further qubit, where none stood twice so far, and tells whether one does now.
 fn noted(
-    seen: &mut Vec<bool>,
+    seen: &mut BTreeSet<u16>,
     qubits: &mut Vec<Qubit>,
     broken: bool,
     qubit: Qubit,
 ) -> Result<bool, AllocError>
-    requires { length seen.old.items ≡ 65536 }
-    ensures kept { IfOk result (λ now. (front : List Qubit) → IsKept front broken seen.old.items qubits.old.items → IsKept (front ++ qubit ∷ []) now seen.new.items qubits.new.items) }
-    ensures len { length seen.new.items ≡ length seen.old.items }
+    ensures { IfOk result (λ now. (front : List Qubit) → IsKept front broken seen.old qubits.old.items → IsKept (front ++ qubit ∷ []) now seen.new qubits.new.items) }
 {
     if broken {
         return Ok(true);
     }
-    let number = qubit.0;
-    let at = usize::from(number);
-    if seen[at] {
+    let is_new = seen.insert(qubit.0)?;
+    if !is_new {
         return Ok(true);
     }
-    seen[at] = true;
     qubits.push(qubit)?;
     Ok(false)
 }
@@ -67,7 +54,7 @@ fn noted(
 fn qubits_of(alloc: Global, words: Option<&[u8]>) -> Result<Option<Vec<Qubit>>, OpFault>
     ensures { GivesOp (λ x. option_map (λ v. v.items) x) result (fence_qubits (words_left (option_copied words.entry))) }
 {
-    let mut seen = no_marks(alloc, QUBITS)?;
+    let mut seen = BTreeSet::new(alloc);
     let mut qubits = Vec::new(alloc);
     let mut broken = false;
     let mut left = words;
