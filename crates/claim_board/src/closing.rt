@@ -21,7 +21,9 @@ use std::alloc::Global;
 /// What is left of a deck: the cells, and the turn that each resource has come to, by its number.
 #[derive(Debug, Drop)]
 pub struct Closed {
+    /// The cell of each resource, in their order.
     pub cells: Cells,
+    /// How often each resource was given back, in their order.
     pub turns: Vec<u32>,
 }
 

@@ -23,7 +23,9 @@ use std::marker::Model;
 /// The turn that a resource has come to, and who holds it.
 #[derive(Clone, Copy, Debug, PartialEq, Eq)]
 pub struct Slot {
+    /// How often it was given back.
     pub turn: u32,
+    /// The worker that holds it.
     pub holder: Option<u16>,
 }
 
