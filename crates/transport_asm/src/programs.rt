@@ -19,9 +19,13 @@ use std::alloc::Global;
 /// operations. Nothing more is known of them than that they have texts.
 #[derive(Debug, Drop)]
 pub struct RawProgram {
+    /// How many qubits.
     pub qubits: u16,
+    /// How many classical bits.
     pub bits: u16,
+    /// The ions of each trap at the start, from left to right.
     pub chains: Vec<IonList>,
+    /// The operations, in order.
     pub ops: Vec<Op>,
 }
 

@@ -13,6 +13,7 @@ use crate::words::{is, lettered, number, word};
 use op_table::OpKind;
 use qccd_base::{End, JuncId, SegId, TrapId};
 
+/// The trap that the next word names, and what is left behind it.
 pub fn trap_at(words: Option<&[u8]>) -> Result<(TrapId, Option<&[u8]>), AsmKind>
     ensures exact { Gives (λ x. (x.0, words_left (option_copied x.1))) result (read_one trap_slot (words_left (option_copied words.entry))) }
     ensures shorter { IfOk result (λ x. size_left (option_copied x.1) < size_left (option_copied words.entry)) }
@@ -116,7 +117,7 @@ fn merge_at(words: Option<&[u8]>) -> Result<((SegId, (TrapId, End)), Option<&[u8
     Ok(((seg, (trap, end)), rest))
 }
 
-// An operation of these names.
+/// An operation of these names.
 pub fn plain_named<'a>(
     name: &[u8],
     words: Option<&'a [u8]>,

@@ -11,14 +11,14 @@ ghost use Rattle.transport_asm.specs.Slots.{are_digits, number_slot, lettered};
 use crate::faults::AsmKind;
 use qccd_base::read_number;
 
-// Where the byte is found first.
+/// Where the byte is found first.
 pub fn place_of(text: &[u8], byte: u8) -> Option<usize>
     ensures { result ≡ position (λ c. c == byte) text.now }
 {
     text.iter().position(|other| *other == byte)
 }
 
-// The text up to the byte, and what is left behind it where it is there.
+/// The text up to the byte, and what is left behind it where it is there.
 pub fn cut_at(text: &[u8], byte: u8) -> (&[u8], Option<&[u8]>)
     ensures parts { slice_split (λ c. c == byte) text.now ≡ result.0.now ∷ parts_left byte (option_copied result.1) }
     ensures shorter { size_left (option_copied result.1) < 1 + length text.now }
@@ -29,7 +29,7 @@ pub fn cut_at(text: &[u8], byte: u8) -> (&[u8], Option<&[u8]>)
     }
 }
 
-// The first word of a line, and what is left behind it.
+/// The first word of a line, and what is left behind it.
 pub fn cut(line: &[u8]) -> (&[u8], Option<&[u8]>)
     ensures words { words_of line.now ≡ result.0.now ∷ words_left (option_copied result.1) }
     ensures shorter { size_left (option_copied result.1) < 1 + length line.now }
@@ -44,7 +44,7 @@ fn all_digits(bytes: &[u8]) -> bool
     bytes.iter().all(|byte| byte.is_ascii_digit())
 }
 
-// Whether the bytes are digits, at least one.
+/// Whether the bytes are digits, at least one.
 pub fn are_digits(word: &[u8]) -> bool
     ensures { result ≡ are_digits word.now }
 {
@@ -62,7 +62,7 @@ fn number_within(word: &[u8], most: u64) -> Option<u64>
     read_number(word).filter(|n| *n <= most)
 }
 
-// The number up to a limit that the word writes.
+/// The number up to a limit that the word writes.
 pub fn number(word: &[u8], most: u64) -> Result<u64, AsmKind>
     ensures { result ≡ (number_slot most).read word.now }
 {
@@ -73,7 +73,7 @@ pub fn number(word: &[u8], most: u64) -> Result<u64, AsmKind>
     }
 }
 
-// The number directly behind a letter.
+/// The number directly behind a letter.
 pub fn lettered(word: &[u8], letter: u8, most: u64) -> Result<u64, AsmKind>
     ensures { result ≡ lettered letter most word.now }
 {
@@ -83,7 +83,7 @@ pub fn lettered(word: &[u8], letter: u8, most: u64) -> Result<u64, AsmKind>
     }
 }
 
-// The next word of a line, and what is left behind it.
+/// The next word of a line, and what is left behind it.
 pub fn word(words: Option<&[u8]>) -> Result<(&[u8], Option<&[u8]>), AsmKind>
     ensures exact { Gives (λ x. (x.0.now, words_left (option_copied x.1))) result (first_word (words_left (option_copied words.entry))) }
     ensures shorter { IfOk result (λ x. size_left (option_copied x.1) < size_left (option_copied words.entry)) }
@@ -94,7 +94,7 @@ pub fn word(words: Option<&[u8]>) -> Result<(&[u8], Option<&[u8]>), AsmKind>
     }
 }
 
-// Whether no word is left.
+/// Whether no word is left.
 pub fn is_end(words: Option<&[u8]>) -> bool
     ensures { result ≡ is_end (words_left (option_copied words.entry)) }
 {
@@ -104,7 +104,7 @@ pub fn is_end(words: Option<&[u8]>) -> bool
     }
 }
 
-// Whether the word is this text.
+/// Whether the word is this text.
 pub fn is(word: &[u8], text: &[u8]) -> bool
     ensures { result ≡ bytes_eq word.now text.now }
 {
