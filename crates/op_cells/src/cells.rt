@@ -16,8 +16,11 @@ use std::marker::Model;
 /// That an operation was done, and when.
 #[derive(Clone, Copy, Debug, PartialEq, Eq)]
 pub struct Done {
+    /// The operation's number.
     pub op: u32,
+    /// When it started, in microseconds.
     pub start: u64,
+    /// When it was finished, in microseconds.
     pub finish: u64,
 }
 
@@ -25,6 +28,7 @@ pub struct Done {
 #[derive(Debug, Drop)]
 pub struct Cell {
     pub content: Content,
+    /// When the last operation that touched it was finished, in microseconds.
     pub free_at: u64,
     pub log: DoneList,
 }

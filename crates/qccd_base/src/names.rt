@@ -40,11 +40,12 @@ pub enum SegEnd {
     B,
 }
 
-/// How a qubit is brought to the end of its chain: by exchanging neighbouring ions, or by a gate
-/// that exchanges the qubits of two ions.
+/// How a qubit is brought to the end of its chain.
 #[derive(Clone, Copy, Debug, PartialEq, Eq, PartialOrd, Ord, Hash)]
 pub enum Mode {
+    /// By exchanging neighbouring ions.
     IonSwap,
+    /// By a gate that exchanges the qubits of two ions.
     GateSwap,
 }
 

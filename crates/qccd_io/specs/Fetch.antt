@@ -4,7 +4,7 @@ use Rattle.qccd_io.specs.Shelf.{Holding}
 use Rattle.qccd_io.specs.declared.fetch.FetchFault.{FetchFault}
 use Rattle.qccd_io.specs.declared.fetch.FetchFault.TheVariants.{ReadFault, TooLarge, NoMemory}
 
--- a fact for each fault, and the limit that was told for a file that is too large; want of memory
+-- a fact for each fault, and the limit that was told for a file that is too large; that memory ran out
 -- says nothing
 abbrev pub MatchFault : FetchFault → Type 0 → (ℕ → Type 0) → Type 0
 MatchFault ReadFault P Q = P

@@ -15,7 +15,7 @@ known_length (Some bytes) = length bytes
 abbrev pub TookFirst : Option (List ℕ) → Option (List ℕ) → List ℕ → ℕ → Type 0
 TookFirst old new piece n = (n ≤ length piece) × (0 < length piece → 0 < n) × (new ≡ appended old (take n piece))
 
--- some first bytes of the text were taken, maybe none and maybe all
+-- a prefix of the text was taken, maybe none of it and maybe all
 pub record TookPrefix (old new : Option (List ℕ)) (text : List ℕ) : Type 0 where
   pub count : ℕ
   pub within : count ≤ length text

@@ -18,7 +18,7 @@ pub trait Sink {
     // The references that it keeps, which stay the same, and how much it handed on through them.
     ghost behind: { Self → Behind } = { λ _. nothing_behind };
 
-    /// Takes some first bytes of the piece, and says how many: at least one of a piece that has
+    /// Takes a prefix of the piece, and says how long it is: at least one of a piece that has
     /// any. Where it fails it took none, and its count of faults rose.
     fn write(&mut self, piece: &[u8]) -> Result<usize, Failed>
         ensures ok { IfOk result (λ n. TookFirst (taken self.old) (taken self.new) piece.now n) }

@@ -82,7 +82,7 @@ fn each_call_may_fail_once(rt: HostRuntime) -> Result<(), Fail> {
 
 #[test]
 fn fetches_a_file_of_the_system(rt: HostRuntime) -> Result<(), Fail> {
-    let path = "/tmp/qccd_io_fetches_a_file_of_the_system";
+    let path = "a_file_of_the_system";
     fs::write(&rt, path, BELL)?;
     let mut shelf = FileShelf::of(&rt);
     let fetched = fetch_all(rt.alloc(), &mut shelf, path, 19);
@@ -98,7 +98,7 @@ fn fetches_a_file_of_the_system(rt: HostRuntime) -> Result<(), Fail> {
 // Files of no byte, of one whole read, and of more than that.
 #[test]
 fn fetches_long_files_of_the_system(rt: HostRuntime) -> Result<(), Fail> {
-    let path = "/tmp/qccd_io_fetches_long_files_of_the_system";
+    let path = "long_files_of_the_system";
     for size in [0, 65_536, 150_001] {
         let mut bytes = vec![in rt.alloc(); b'a'; size]?;
         for (place, byte) in bytes.iter_mut().enumerate() {
