@@ -1,6 +1,7 @@
 //! Numbers and their decimal texts.
 
-ghost use Rattle.std.specs.Prelude.{◌≡◌, ◌≢◌, ◌↔◌, ℕ, ◌^◌, ◌<◌, Some, IfSome, IfNone, decimal};
+ghost use Rattle.std.specs.Prelude.{◌≡◌, ◌≢◌, ◌↔◌, ℕ, ◌^◌, ◌<◌, Some, IfSome, IfNone, true, decimal};
+ghost use Rattle.qccd_base.specs.Numbers.{is_led};
 
 use arrayvec::ArrayString;
 use itoa::Buffer;
@@ -22,13 +23,24 @@ pub fn read_number(bytes: &[u8]) -> Option<u64>
     ensures some { IfSome result (λ n. bytes.now ≡ decimal n) }
     ensures none { IfNone result ((n : ℕ) → n < 2 ^ 64 → bytes.now ≢ decimal n) }
 {
-    // `parse` takes a sign and leading zeros too, so the text has to be the one that is written.
-    parsed(bytes).filter(|n| number_text(*n).as_bytes() == bytes)
+    if is_led(bytes) { parsed(bytes) } else { None }
 }
 
-// What `parse` makes of the bytes, which is the number at least where they are its decimal text.
+// Whether the bytes begin as a number that is written does. `parse` takes a plus and leading zeros too.
+fn is_led(bytes: &[u8]) -> bool
+    ensures { result ≡ is_led bytes.now }
+{
+    match bytes {
+        [] => false,
+        [first, rest @ ..] => *first != b'+' && (*first != b'0' || rest.is_empty()),
+    }
+}
+
+// What `parse` makes of the bytes: the number where they are its decimal text, and of bytes that begin as such a text
+// do no other number.
 fn parsed(bytes: &[u8]) -> Option<u64>
-    ensures { (n : ℕ) → n < 2 ^ 64 → bytes.now ≡ decimal n → result ≡ Some n }
+    ensures known { (n : ℕ) → n < 2 ^ 64 → bytes.now ≡ decimal n → result ≡ Some n }
+    ensures written { IfSome result (λ n. is_led bytes.now ≡ true → bytes.now ≡ decimal n) }
 {
     let Ok(text) = str::from_utf8(bytes) else {
         return None;
