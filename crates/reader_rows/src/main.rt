@@ -3,12 +3,15 @@
 //! A row is a word and a text. The word tells what is read before the text: `text` nothing, `head` the
 //! header, `cells` the header, the include and some registers. In a text `~` stands for a line feed.
 //! Of a circuit the row is told with a `=` and its items: name, angles, qubits and, behind a `>`, the
-//! bit. Where it is refused, a `@` stands before the byte that is told, and the kind behind a `!`. A row
-//! that begins with another word is told as it stands.
+//! bit. Where it is refused, a `@` stands before the byte that is told, and the kind behind a `!`.
+//!
+//! Behind the word `many` stand, between bars, a number, a text, a piece that stands so many times behind it,
+//! and the text behind those. Of such a circuit the row is told with its counts, or with the fault in words and
+//! as a value. The row `faults` is told with two faults. Any other row is told as it stands.
 #![tactic(auto)]
 
-use qasm_reader::{QasmFault, read};
-use qccd_base::{NoMemory, number_text};
+use qasm_reader::{Many, QasmFault, QasmKind, read};
+use qccd_base::{NoMemory, number_text, read_number};
 use qccd_circuit::{Circuit, Item};
 use std::alloc::Global;
 use std::io::{Read, Write};
@@ -34,6 +37,14 @@ fn parts(row: &[u8]) -> Option<(&'static [u8], &[u8])> {
     } else {
         None
     }
+}
+
+// The answer to the text, and no memory where it is longer than a circuit may be.
+fn answer(alloc: Global, text: &[u8]) -> Result<Circuit, QasmFault> {
+    if text.len() > LIMIT {
+        return Err(QasmFault::NoMemory);
+    }
+    read(alloc, text)
 }
 
 // The text of a row, with line feeds.
@@ -107,18 +118,63 @@ fn show_refusal(row: &[u8], at: usize, why: &str, shown: &mut Vec<u8>) -> Result
     Ok(())
 }
 
+// The text of a row of many pieces.
+fn repeated(alloc: Global, parts: &[u8]) -> Result<Vec<u8>, NoMemory> {
+    let mut parts = parts.split(|byte| *byte == b'|');
+    let times = parts.next().and_then(|number| read_number(number));
+    let mut text = Vec::from_slice(alloc, parts.next().unwrap_or(b""))?;
+    let piece = parts.next().unwrap_or(b"");
+    for _ in 0..times.unwrap_or(0) {
+        text.extend_from_slice(piece)?;
+    }
+    text.extend_from_slice(parts.next().unwrap_or(b""))?;
+    Ok(text)
+}
+
+// Puts a row of many pieces at the end, with the circuit's counts or the fault.
+fn show_many(alloc: Global, row: &[u8], parts: &[u8], shown: &mut Vec<u8>) -> Result<(), NoMemory> {
+    let text = repeated(alloc, parts)?;
+    let told = match answer(alloc, &text) {
+        Ok(circuit) => format!(in alloc;
+            " = {} qubits, {} bits, {} items\n",
+            circuit.qubits(),
+            circuit.bits(),
+            circuit.items().len()
+        )?,
+        Err(fault) => format!(in alloc; " ! {fault} = {fault:?}\n")?,
+    };
+    shown.extend_from_slice(row)?;
+    shown.extend_from_slice(told.as_bytes())?;
+    Ok(())
+}
+
+// Puts two faults in words at the end.
+fn show_faults(alloc: Global, shown: &mut Vec<u8>) -> Result<(), NoMemory> {
+    let kind = QasmKind::TooMany {
+        what: Many::AngleBytes,
+        limit: 1024,
+    };
+    let refused = QasmFault::Refused { at: 7, kind };
+    let told = format!(in alloc; "faults ! {refused} ! {}\n", QasmFault::NoMemory)?;
+    shown.extend_from_slice(told.as_bytes())?;
+    Ok(())
+}
+
 // Puts the answer to the row at the end.
 fn show_answer(alloc: Global, row: &[u8], shown: &mut Vec<u8>) -> Result<(), NoMemory> {
+    if let Some(parts) = row.strip_prefix(b"many ") {
+        return show_many(alloc, row, parts, shown);
+    }
+    if row == b"faults".as_slice() {
+        return show_faults(alloc, shown);
+    }
     let Some((before, rest)) = parts(row) else {
         shown.extend_from_slice(row)?;
         shown.push(b'\n')?;
         return Ok(());
     };
     let text = text_of(alloc, before, rest)?;
-    if text.len() > LIMIT {
-        return Err(NoMemory);
-    }
-    match read(alloc, &text) {
+    match answer(alloc, &text) {
         Ok(circuit) => show_circuit(row, &circuit, shown),
         Err(QasmFault::Refused { at, kind }) => {
             let word = row.len().saturating_sub(rest.len());
