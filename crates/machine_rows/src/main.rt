@@ -1,97 +1,84 @@
 //! Tells of the machine of each row of standard input. A row is one of these; another stands as it is:
 //!
 //! - `fault PARTS`: what is wrong with the parts, or `none`
-//! - `build PARTS`: the sizes of their machine, or why there is none
+//! - `file FILE`: why the file is that of no machine, or `none`
+//! - `text FAULT NUMBER`: what is told of the fault, by its text and as it is displayed
+//! - `memory`: what is told where memory ran out
+//! - `build PARTS`: the sizes of the machine of the parts, or why there is none
+//! - `read FILE`: the sizes and the times of the machine of the file
 //! - `preset NAME CAPACITY`: the sizes, the parts and the times of a machine that is known by name
-//! - `text FAULT NUMBER`: what is told of a fault, by its text and as it is displayed
+//! - `ways FROM-TO,.. PARTS`, or with a preset in their place: what the routes tell of these ways
 #![tactic(auto)]
 
 mod faults;
+mod files;
+mod machines;
 mod parts;
+mod ways;
 
 use faults::read_fault;
-use parts::{read_parts, small, unread};
-use qccd_base::{End, JuncId, NoMemory, SegId, TrapId};
-use qccd_machine::{Machine, Preset, preset_machine};
-use std::alloc::{AllocError, Global};
+use files::read_file;
+use machine_text::{TextFault, read_machine};
+use machines::{read_preset, show_parts, show_sizes, show_times};
+use parts::{read_parts, unread};
+use qccd_machine::Machine;
+use std::alloc::Global;
+use std::fmt::Display;
 use std::io::{self, Read};
+use ways::show_ways;
 
-/// The machine of this name, its traps of the capacity.
-fn read_preset(alloc: Global, text: &str) -> io::Result<Machine> {
-    let (name, capacity) = text.split_once(" ").ok_or(unread())?;
-    let which = match name {
-        "L6" => Preset::L6,
-        "G2x3" => Preset::G2x3,
-        "single" => Preset::Single,
-        _ => return Err(unread()),
-    };
-    match small(capacity) {
-        Some(capacity @ 2..=32) => match preset_machine(alloc, which, capacity) {
-            Ok(machine) => Ok(machine),
-            Err(NoMemory) => Err(AllocError.into()),
-        },
-        _ => Err(unread()),
+/// Prints the row and the fault, or `none`.
+fn show_fault<F: Display + Drop>(rt: &impl Print, row: &str, fault: Option<F>) -> io::Result<()> {
+    match fault {
+        Some(fault) => println!(rt; "{row} = {fault}"),
+        None => println!(rt; "{row} = none"),
     }
 }
 
-/// Prints how many parts of each kind the machine has, its slots and the bound of an item's operations.
-fn show_sizes(rt: &impl Print, machine: &Machine) -> io::Result<()> {
-    println!(rt;
-        "  traps {} segments {} junctions {} slots {} worst {}",
-        machine.traps(),
-        machine.segments(),
-        machine.junctions(),
-        machine.slots(),
-        machine.worst()
-    )
+/// Prints the row and the sizes of the machine of the parts, or why there is none.
+fn show_built(rt: &impl Print, alloc: Global, row: &str, parts: &str) -> io::Result<()> {
+    match Machine::build(alloc, read_parts(alloc, parts)?) {
+        Ok(machine) => {
+            println!(rt; "{row}")?;
+            show_sizes(rt, &machine)
+        }
+        Err(fault) => println!(rt; "{row} = {fault}"),
+    }
 }
 
-/// Prints each trap with its capacity and the segments at its ends, each segment with its two ends, each
-/// junction with its degree, and the times.
-fn show_parts(rt: &impl Print, machine: &Machine) -> io::Result<()> {
-    for number in 0..machine.traps() {
-        let trap = TrapId(number);
-        println!(rt;
-            "  T{number} holds {}, {:?} {:?}",
-            machine.capacity(trap),
-            machine.joined(trap, End::Left),
-            machine.joined(trap, End::Right)
-        )?;
-    }
-    for number in 0..machine.segments() {
-        let (first, second) = machine.ends(SegId(number));
-        println!(rt; "  S{number} {first:?} {second:?}")?;
-    }
-    for number in 0..machine.junctions() {
-        println!(rt; "  J{number} joins {}", machine.degree(JuncId(number)))?;
-    }
-    println!(rt; "  {:?}", machine.times())
+/// Prints the row, and the sizes and the times of the machine of the file.
+fn show_read(rt: &impl Print, alloc: Global, row: &str, file: &str) -> io::Result<()> {
+    let machine = read_machine(alloc, &read_file(alloc, file)?);
+    let machine = machine.ok().ok_or(unread())?;
+    println!(rt; "{row}")?;
+    show_sizes(rt, &machine)?;
+    show_times(rt, &machine)
+}
+
+/// Prints the row, and the sizes, the parts and the times of the machine of this name.
+fn show_preset(rt: &impl Print, alloc: Global, row: &str, preset: &str) -> io::Result<()> {
+    let machine = read_preset(alloc, preset)?;
+    println!(rt; "{row}")?;
+    show_sizes(rt, &machine)?;
+    show_parts(rt, &machine)?;
+    show_times(rt, &machine)
 }
 
 /// Prints the row and the answer to it.
 fn show_row(rt: &impl Print, alloc: Global, row: &str) -> io::Result<()> {
-    match row.split_once(" ") {
-        Some(("fault", rest)) => match read_parts(alloc, rest)?.fault() {
-            Some(fault) => println!(rt; "{row} = {fault}"),
-            None => println!(rt; "{row} = none"),
-        },
-        Some(("build", rest)) => match Machine::build(alloc, read_parts(alloc, rest)?) {
-            Ok(machine) => {
-                println!(rt; "{row}")?;
-                show_sizes(rt, &machine)
-            }
-            Err(fault) => println!(rt; "{row} = {fault}"),
-        },
-        Some(("preset", rest)) => {
-            let machine = read_preset(alloc, rest)?;
-            println!(rt; "{row}")?;
-            show_sizes(rt, &machine)?;
-            show_parts(rt, &machine)
-        }
-        Some(("text", rest)) => {
+    let (word, rest) = row.split_once(" ").unwrap_or((row, ""));
+    match word {
+        "fault" => show_fault(rt, row, read_parts(alloc, rest)?.fault()),
+        "file" => show_fault(rt, row, read_machine(alloc, &read_file(alloc, rest)?).err()),
+        "text" => {
             let fault = read_fault(rest).ok_or(unread())?;
             println!(rt; "{row} = {} = {fault}", fault.text().as_str())
         }
+        "memory" => println!(rt; "{row} = {}", TextFault::NoMemory),
+        "build" => show_built(rt, alloc, row, rest),
+        "read" => show_read(rt, alloc, row, rest),
+        "preset" => show_preset(rt, alloc, row, rest),
+        "ways" => show_ways(rt, alloc, row, rest),
         _ => println!(rt; "{row}"),
     }
 }

@@ -91,6 +91,6 @@ fn place(text: &str) -> Option<Place> {
 }
 
 /// A number of a row.
-fn number(text: &str) -> io::Result<u64> {
+pub fn number(text: &str) -> io::Result<u64> {
     read_number(text.as_bytes()).ok_or(unread())
 }
