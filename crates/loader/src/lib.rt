@@ -10,6 +10,3 @@ mod start;
 
 pub use faults::LoadFault;
 pub use loading::load;
-
-#[cfg(test)]
-mod tests;

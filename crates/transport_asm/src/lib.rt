@@ -23,6 +23,3 @@ pub use ops::read_op;
 pub use program_texts::write_program;
 pub use programs::{RawProgram, read_ops};
 pub use writing::write_op;
-
-#[cfg(test)]
-mod tests;
