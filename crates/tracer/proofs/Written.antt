@@ -2,7 +2,7 @@
 use Rattle.std.proofs.Common.{ℕ, List, Option, Ok, Err, refl, arith}
 use Rattle.qccd_io.specs.Sends.{Sends}
 use Rattle.qccd_io.specs.Sink.{Behind}
-use Rattle.tracer.specs.declared.report.ReportFault.TheVariants as fault
+use Rattle.tracer.specs.declared.fault.ReportFault.TheVariants as fault
 use Rattle.tracer.specs.Reports.{Reports}
 
 pub written_none : {X T : Type 0} (taken : X → Option (List ℕ)) (faults : X → ℕ) (behind : X → Behind) (s : X) (text : List ℕ) → Reports {T = T} taken faults behind s s (Err fault.NoMemory) text

@@ -3,6 +3,7 @@ pub mod TimeOrder
 pub mod ItemOrder
 pub mod Report
 pub mod Summary
+pub mod FaultText
 pub mod Reports
 pub mod Bell
 pub mod Scattered

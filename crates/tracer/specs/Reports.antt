@@ -2,8 +2,8 @@
 use Rattle.std.specs.Prelude.{◌≡◌, ◌≤◌, ℕ, List, Option, Result, OnOk, Err}
 use Rattle.qccd_io.specs.Faults.{Rose}
 use Rattle.qccd_io.specs.Sink.{appended, TookPrefix, Behind, Further}
-use Rattle.tracer.specs.declared.report.ReportFault.{ReportFault}
-use Rattle.tracer.specs.declared.report.ReportFault.TheVariants as fault
+use Rattle.tracer.specs.declared.fault.ReportFault.{ReportFault}
+use Rattle.tracer.specs.declared.fault.ReportFault.TheVariants as fault
 
 -- The text was appended whole. Or a write failed: then a prefix of it was appended, and the count of faults
 -- rose. Or memory ran out: then the sink is as it was.

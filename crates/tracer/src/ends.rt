@@ -4,10 +4,10 @@ ghost use Rattle.std.specs.Prelude.{◌≡◌, ◌<◌, ◌≤◌, ◌++◌, cod
 ghost use Rattle.std.specs.List.{range_with_len};
 ghost use Rattle.qccd_base.specs.Greatest.{greatest};
 ghost use Rattle.qccd_io.specs.Sends.{Sends};
-ghost use Rattle.op_table.specs.Act.{carry_in, chain_in, heat_in, rider_in};
+ghost use Rattle.op_table.specs.Act.{carry_in, heat_in};
 ghost use Rattle.op_table.specs.Contents.{content};
 ghost use Rattle.op_table.specs.State.{is_in_junction, is_on_segment};
-ghost use Rattle.op_cells.specs.Numbering.{index_of, IsThere};
+ghost use Rattle.op_cells.specs.Numbering.{IsThere};
 ghost use Rattle.claim_core.specs.AllCells.{AtEnd};
 ghost use Rattle.claim_core.specs.Program.{end_of};
 ghost use Rattle.transport_asm.specs.OpText.{next_word};
@@ -15,26 +15,10 @@ ghost use Rattle.tracer.specs.Report.{end_line, end_lines, junction_line, labell
 ghost use Rattle.tracer.specs.Summary.{traps_heat};
 
 use claim_core::Program;
-use op_cells::{Cell, Cells};
+use op_cells::{Cell, Cells, chain_in, index_of, rider_in};
 use op_table::{Carry, Content, Entry, Rider};
 use qccd_base::{JuncId, Res, SegEnd, SegId, TrapId, number_text};
 use qccd_io::{Failed, Sink, send, send_all};
-use qccd_machine::Machine;
-
-// The number of a resource among all.
-fn index_of(machine: &Machine, r: Res) -> usize
-    ensures { result ≡ index_of machine.now r }
-{
-    let traps = usize::from(machine.traps());
-    let segments = usize::from(machine.segments());
-    let junctions = usize::from(machine.junctions());
-    match r {
-        Res::Trap(t) => usize::from(t.0),
-        Res::Seg(g) => traps + usize::from(g.0),
-        Res::Junc(j) => traps + segments + usize::from(j.0),
-        Res::Bit(b) => traps + segments + junctions + usize::from(b.0),
-    }
-}
 
 // What the resource holds at the end.
 fn held_at_end<'a>(program: &Program, cells: &'a Cells, r: Res) -> &'a Content
@@ -43,18 +27,6 @@ fn held_at_end<'a>(program: &Program, cells: &'a Cells, r: Res) -> &'a Content
     ensures { result.now ≡ content (end_of program.now) r }
 {
     &cells.as_slice()[index_of(program.machine(), r)].content
-}
-
-// The ions of a trap; nothing else has any.
-fn chain_in(content: &Content) -> &[Entry]
-    ensures { result.now ≡ chain_in content.now }
-{
-    match content {
-        Content::Trap { chain, heat: _ } => chain.as_slice(),
-        Content::Seg { rider: _ } => &[],
-        Content::Junc { carry: _ } => &[],
-        Content::Bit => &[],
-    }
 }
 
 // The heat of a trap, in thousandths; nothing else has any.
@@ -66,18 +38,6 @@ fn heat_in(content: &Content) -> u64
         Content::Seg { rider: _ } => 0,
         Content::Junc { carry: _ } => 0,
         Content::Bit => 0,
-    }
-}
-
-// The ion on a segment; nothing else has one.
-fn rider_in(content: &Content) -> Option<Rider>
-    ensures { result ≡ rider_in content.now }
-{
-    match content {
-        Content::Trap { chain: _, heat: _ } => None,
-        Content::Seg { rider } => *rider,
-        Content::Junc { carry: _ } => None,
-        Content::Bit => None,
     }
 }
 

@@ -3,13 +3,15 @@
 
 mod counting;
 mod ends;
+mod fault;
 pub mod laws;
 mod order;
 mod report;
 pub mod worked;
 
+pub use fault::ReportFault;
 pub use order::time_order;
-pub use report::{ReportFault, write_report, write_summary};
+pub use report::{write_report, write_summary};
 
 #[cfg(test)]
 mod tests;

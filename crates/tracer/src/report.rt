@@ -14,6 +14,7 @@ ghost use Rattle.tracer.specs.Reports.{Reports};
 
 use crate::counting::send_counts;
 use crate::ends::{last_finish, send_ends, traps_heat};
+use crate::fault::ReportFault;
 use crate::order::time_order;
 use claim_core::Program;
 use op_cells::{Cells, Done};
@@ -22,15 +23,6 @@ use qccd_base::{Ion, TrapId, number_text};
 use qccd_io::{Failed, Sink, send, send_all, send_labelled};
 use std::alloc::Global;
 use transport_asm::write_op;
-
-/// Why a report was not written.
-#[derive(Clone, Copy, Debug, PartialEq, Eq, Hash)]
-pub enum ReportFault {
-    /// The sink failed. A prefix of the report was appended.
-    Write,
-    /// Memory ran out. Nothing was appended.
-    NoMemory,
-}
 
 // A line of a label and a number.
 fn send_total<S: Sink>(sink: &mut S, label: &[u8], n: u64) -> Result<(), Failed>
