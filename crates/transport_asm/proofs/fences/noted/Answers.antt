@@ -22,6 +22,6 @@ pub returns : goal.returns
 returns c = λ front kept.
     let marked = kept_so front c.args.broken c.args.seen.now c.args.qubits.now.items c.if-broken.false kept in
     rw c.in_ok-push.ensures.items (
-      once front c.args.qubit c.args.seen.now c.insert.new.self c.args.qubits.now.items marked
-      (was_out _ c.in_ok-is_new.is_new c.in_ok-is_new.ensures.added c.if-not-is_new.false) c.in_ok-is_new.ensures.updates
+    once front c.args.qubit c.args.seen.now c.insert.new.self c.args.qubits.now.items marked
+    (was_out _ c.in_ok-is_new.is_new c.in_ok-is_new.ensures.added c.if-not-is_new.false) c.in_ok-is_new.ensures.updates
     )
