@@ -1,10 +1,9 @@
 -- Along a history the board stays sound.
-use Rattle.std.proofs.Common.{◌≡◌, ◌≢◌, ℕ, zero, suc, ◌<◌, ◌≤◌, ◌⊎◌, inl, inr, Bool, true, false, if◌then◌else◌, List, [], ◌∷◌, length, replicate, get_or, take, ◌++◌, refl, sym, ◌∙◌, ap, subst, arith, Option, Some, None}
+use Rattle.std.proofs.Common.{◌≡◌, ℕ, zero, suc, ◌<◌, inl, inr, Bool, false, if◌then◌else◌, List, [], ◌∷◌, length, replicate, get_or, take, ◌++◌, refl, sym, ◌∙◌, ap, subst, arith, None}
 use Rattle.std.proofs.lemmas.List.{length-replicate}
-use Rattle.std.proofs.lemmas.Bool.{cases_Bool, false≢true}
+use Rattle.std.proofs.lemmas.Bool.{cases_Bool}
 use Rattle.std.proofs.lemmas.Option.{none-some}
 use Rattle.qccd_base.specs.declared.names.Res.{Res}
-use Rattle.qccd_base.specs.Resource.{among}
 use Rattle.claim_core.specs.Program.{ProgramData}
 use Rattle.claim_history.specs.declared.board.Slot.{Slot}
 use Rattle.claim_history.specs.declared.event.Event.{Event}
@@ -12,7 +11,7 @@ use Rattle.claim_history.specs.declared.event.Event.TheVariants.{Begin, Reach, G
 use Rattle.claim_history.specs.Board.{HandData, BoardData, is_there, width, free_slot, slot_at, turn_at, holder_at, idle, empty_hand, hand_at, opening_board}
 use Rattle.op_cells.specs.Numbering.{index_of}
 use Rattle.claim_history.specs.Event.{touched, begun, fault, moved, IsEvent, Allowed}
-use Rattle.claim_history.specs.Sound.{read, Sound, IsWide, IsSound}
+use Rattle.claim_history.specs.Sound.{IsSound}
 use Rattle.claim_history.specs.Tests.{Claims}
 use Rattle.claim_history.specs.History.{IsHistoryFrom, board_from}
 use Rattle.claim_history.proofs.Kept.{sound-moved, begin-fair, reach-fair, give-fair}

@@ -1,16 +1,15 @@
 -- Each event keeps a board sound.
-use Rattle.std.proofs.Common.{◌≡◌, ◌≢◌, ℕ, zero, suc, ◌+◌, ◌<◌, ◌≤◌, ◌⊎◌, inl, inr, Bool, true, false, cond, ◌||◌, List, [], ◌∷◌, length, refl, sym, ◌∙◌, ap, subst, arith, Option, Some, None}
-use Rattle.std.specs.Prelude.{slice_get}
+use Rattle.std.proofs.Common.{◌≡◌, ◌≢◌, ℕ, zero, suc, ◌<◌, ◌≤◌, ◌⊎◌, inl, inr, true, false, ◌||◌, List, [], ◌∷◌, length, refl, sym, ◌∙◌, ap, subst, arith, Some, None}
 use Rattle.std.proofs.lemmas.Bool.{cases_Bool, false≢true, true≢false, or_cases, or_parts}
 use Rattle.std.proofs.lemmas.Option.{same_Some, none-some}
 use Rattle.qccd_base.specs.declared.names.Res.{Res}
 use Rattle.qccd_base.specs.Resource.{among, same_res}
 use Rattle.op_table.specs.declared.kinds.OpKind.{OpKind}
-use Rattle.op_table.specs.Touch.{touches, nth, total, is_head}
+use Rattle.op_table.specs.Touch.{nth, total, is_head}
 use Rattle.qccd_base.proofs.Resources.{same_res-true, among-own}
 use Rattle.claim_history.specs.Event.{touched}
 use Rattle.claim_history.specs.Sound.{Reading, HandFits, IsHeld, Unbegun, Finished, Sound}
-use Rattle.claim_history.proofs.Turns.{nth_same, nth_rises, nth_below_total}
+use Rattle.claim_history.proofs.Turns.{nth_same, nth_below_total}
 
 -- a number is another or not
 pub cases_ℕ : (v w : ℕ) → (v ≡ w) ⊎ (v ≢ w)
@@ -152,7 +151,7 @@ pub record Begins (ops : List OpKind) (c d : Reading) (w k : ℕ) (q : Res) : Ty
   pub got : (r : Res) → d.got w r ≡ same_res q r
   pub gave : (r : Res) → d.gave w r ≡ false
 
-turn_kept : (c d : Reading) (w : ℕ) (q : Res) → Moved c d w q → d.turn q ≡ c.turn q → (r : Res) → d.turn r ≡ c.turn r
+pub turn_kept : (c d : Reading) (w : ℕ) (q : Res) → Moved c d w q → d.turn q ≡ c.turn q → (r : Res) → d.turn r ≡ c.turn r
 turn_kept c d w q m own r = elim (cases_Bool (same_res q r)) [
   | inl h ↦ subst (λ (x : Res). d.turn x ≡ c.turn x) (same_res-true q r h) own
   | inr h ↦ m.turn r h

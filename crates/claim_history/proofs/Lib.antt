@@ -8,6 +8,7 @@ pub mod Follows
 pub mod Kept
 pub mod Legally
 pub mod Ordered
+pub mod Passing
 pub mod Swapped
 pub mod Testing
 pub mod Timing

@@ -1,15 +1,13 @@
 -- On a sound board the test is enabled.
-use Rattle.std.proofs.Common.{◌≡◌, ◌≢◌, ℕ, zero, suc, ◌<◌, ◌≤◌, ◌⊎◌, inl, inr, Bool, true, false, ◌&&◌, ◌||◌, ◌==◌, List, [], ◌∷◌, get_or, length, refl, sym, ◌∙◌, ap, subst, arith, Option, Some, None, is_none}
-use Rattle.std.specs.List.{list_all, list_any}
-use Rattle.std.proofs.lemmas.Bool.{le-leb, leb-true, cases_Bool, false≢true, or_cases, or_left, or_right, and_parts, and_from, eq-eqb, eqb-true, ltb-true, lt-ltb}
-use Rattle.std.proofs.lemmas.Option.{none-some, same_Some}
+use Rattle.std.proofs.Common.{◌≡◌, ℕ, ◌<◌, ◌≤◌, ◌⊎◌, inl, inr, true, refl, sym, ◌∙◌, ap, arith, Option, Some, None}
+use Rattle.std.proofs.lemmas.Bool.{le-leb, leb-true, false≢true, ltb-true, lt-ltb}
+use Rattle.std.proofs.lemmas.Option.{same_Some}
 use Rattle.qccd_base.specs.declared.names.Res.{Res}
-use Rattle.qccd_base.specs.Resource.{among, same_res}
+use Rattle.qccd_base.specs.Resource.{among}
 use Rattle.op_table.specs.Touch.{nth}
 use Rattle.claim_core.specs.Program.{ProgramData}
-use Rattle.qccd_base.proofs.Resources.{among-own}
-use Rattle.claim_history.specs.Board.{HandData, BoardData, flag_at, turn_at, holder_at, hand_at, got_at, gave_at, idle}
-use Rattle.claim_history.specs.Event.{is_op, touched, is_free}
+use Rattle.claim_history.specs.Board.{BoardData, turn_at, holder_at}
+use Rattle.claim_history.specs.Event.{touched}
 use Rattle.claim_history.specs.Sound.{Sound, HandFits, read, Finished}
 use Rattle.claim_history.specs.Enabled.{IsEnabled, IsReady}
 use Rattle.claim_history.specs.Tests.{has_come, has_passed, is_enabled, is_finished}
@@ -28,7 +26,7 @@ ready-true p b k r s ready = elim ready [
   | inr (inr given) ↦ le-leb (nth p.ops k r) (turn_at p b r) (omega (arith, given))
 ]
 
-at_or_past : (n m : ℕ) → n ≤ m → (m ≡ n) ⊎ (n < m)
+pub at_or_past : (n m : ℕ) → n ≤ m → (m ≡ n) ⊎ (n < m)
 at_or_past n m h = elim (cases_ℕ m n) [
   | inl e ↦ inl e
   | inr other ↦ inr (omega arith)

@@ -1,29 +1,25 @@
 -- What is read of a board after an event.
-use Rattle.std.proofs.Common.{◌≡◌, ◌≢◌, ℕ, zero, suc, ◌+◌, ◌<◌, ◌≤◌, ◌⊎◌, inl, inr, Bool, true, false, cond, not, ◌&&◌, ◌||◌, ◌==◌, nat_lt, if◌then◌else◌, List, [], ◌∷◌, length, map, is_none, ◌++◌, set, replicate, get_or, refl, sym, ◌∙◌, ap, subst, arith, Option, Some, None, get_or-set_same, get_or-set_other, length-set}
-use Rattle.std.specs.Prelude.{slice_get}
+use Rattle.std.proofs.Common.{◌≡◌, ◌≢◌, ℕ, zero, suc, ◌<◌, ◌⊎◌, inl, inr, Bool, true, false, not, ◌&&◌, ◌||◌, ◌==◌, if◌then◌else◌, List, [], ◌∷◌, length, map, is_none, ◌++◌, set, replicate, get_or, refl, sym, ◌∙◌, ap, subst, arith, Option, Some, None, get_or-set_same, get_or-set_other, length-set}
 use Rattle.std.specs.List.{list_all}
 use Rattle.std.proofs.lemmas.Bool.{cases_Bool, false≢true, true≢false, or_cases, or_parts, or_from, or_left, or_right, and_from, and_left, and_parts, and_cases, eq-eqb, eqb-true, ltb-true, not-true}
-use Rattle.std.proofs.lemmas.Option.{same_Some, none-some}
 use Rattle.std.proofs.lemmas.List.{length-replicate}
 use Rattle.qccd_base.specs.declared.names.Res.{Res}
-use Rattle.qccd_base.specs.Resource.{among, same_res, with_res, ascending, comes_before}
-use Rattle.op_table.specs.declared.kinds.OpKind.{OpKind}
-use Rattle.op_table.specs.Touch.{touches, nth, total, is_head}
+use Rattle.qccd_base.specs.Resource.{among, same_res}
+use Rattle.op_table.specs.Touch.{nth, is_head}
 use Rattle.claim_core.specs.Program.{ProgramData}
 use Rattle.qccd_base.proofs.Resources.{same_res-true, among-own}
 use Rattle.claim_history.specs.declared.board.Slot.{Slot}
 use Rattle.claim_history.specs.declared.event.ActFault.{ActFault}
-use Rattle.claim_history.specs.declared.event.ActFault.TheVariants.{NotYours, NotNow, Held, Untouched, Again, NotGot}
-use Rattle.claim_history.specs.declared.event.Event.{Event}
+use Rattle.claim_history.specs.declared.event.ActFault.TheVariants.{NotYours, Untouched, Again, NotGot}
 use Rattle.claim_history.specs.declared.event.Event.TheVariants.{Begin, Reach, Give}
-use Rattle.claim_history.specs.Board.{HandData, BoardData, is_there, width, free_slot, slot_at, turn_at, holder_at, idle, hand_at, flag_at, got_at, gave_at, opening_board, no_flags}
+use Rattle.claim_history.specs.Board.{HandData, BoardData, is_there, width, free_slot, slot_at, turn_at, holder_at, idle, hand_at, flag_at, got_at, gave_at, no_flags}
 use Rattle.op_cells.specs.Numbering.{index_of}
-use Rattle.claim_history.specs.Event.{touched, is_op, is_free, not_free, fault, with_both, begun, reached, given, left_in_hand, moved, IsEvent, Allowed}
-use Rattle.qccd_base.specs.FirstFailing.{first_failing, NoneFails}
+use Rattle.claim_history.specs.Event.{touched, is_op, is_free, not_free, fault, with_both, begun, reached, given, left_in_hand, IsEvent}
+use Rattle.qccd_base.specs.FirstFailing.{NoneFails}
 use Rattle.qccd_base.proofs.FirstFailing.{first_met, first_failing-split}
-use Rattle.claim_history.specs.Sound.{Reading, read, Sound, IsWide}
+use Rattle.claim_history.specs.Sound.{read, IsWide}
 use Rattle.claim_history.specs.Tests.{Claims}
-use Rattle.claim_history.proofs.Kept.{Moved, Begins, Reaches, Gives, cases_ℕ, same_own, sound-moved, begin-fair, reach-fair, give-fair}
+use Rattle.claim_history.proofs.Kept.{Moved, Begins, Reaches, Gives, cases_ℕ}
 use Rattle.qccd_base.specs.declared.names.Res.TheVariants as res
 
 pub index_below : (p : ProgramData) (r : Res) → is_there p r ≡ true → index_of p.machine r < width p

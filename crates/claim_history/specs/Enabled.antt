@@ -1,10 +1,12 @@
 -- Operations that are finished, and those that can go on.
-use Rattle.std.specs.Prelude.{◌≡◌, ◌⊎◌, ℕ, ◌<◌, true, length, Some, None}
+use Rattle.std.specs.Prelude.{◌≡◌, ◌⊎◌, ℕ, ◌<◌, true, List, length, slice_get, Some, None}
 use Rattle.qccd_base.specs.declared.names.Res.{Res}
 use Rattle.qccd_base.specs.Resource.{among}
 use Rattle.op_table.specs.Touch.{nth}
 use Rattle.claim_core.specs.Program.{ProgramData}
 use Rattle.claim_history.specs.Board.{BoardData, turn_at, holder_at, hand_at}
+use Rattle.claim_history.specs.declared.event.Event.{Event}
+use Rattle.claim_history.specs.declared.event.Event.TheVariants.{Give}
 use Rattle.claim_history.specs.Event.{touched}
 use Rattle.claim_history.specs.Sound.{Finished, read}
 
@@ -19,7 +21,17 @@ IsReady p b k r =
 abbrev pub IsEnabled : ProgramData → BoardData → ℕ → Type 0
 IsEnabled p b k = (r : Res) → among (touched p.ops k) r ≡ true → IsReady p b k r
 
--- the operation has given all of its resources
+-- at this place of the events a worker gives back the resource that operation k has
+pub record IsGiven (es : List Event) (k : ℕ) (r : Res) : Type 0 where
+  pub at : ℕ
+  pub worker : ℕ
+  pub event : slice_get es at ≡ Some (Give worker k r)
+
+-- among the events the operation gives back all of its resources
+abbrev pub HasGivenAll : ProgramData → List Event → ℕ → Type 0
+HasGivenAll p es k = (r : Res) → among (touched p.ops k) r ≡ true → IsGiven es k r
+
+-- each resource of the operation is past its turn: the operation has given all
 abbrev pub IsFinished : ProgramData → BoardData → ℕ → Type 0
 IsFinished p b k = Finished p.ops (read p b) k
 

@@ -1,6 +1,6 @@
 //! What holds of every history of claims. Each function does nothing: its contract is the law.
 
-ghost use Rattle.std.specs.Prelude.{◌≡◌, ◌<◌, ◌++◌, ◌∷◌, [], false, ℕ, List, length, take};
+ghost use Rattle.std.specs.Prelude.{◌≡◌, ◌↔◌, ◌<◌, ◌++◌, ◌∷◌, [], false, ℕ, List, length, take};
 ghost use Rattle.qccd_base.specs.declared.names.Res.{Res};
 ghost use Rattle.qccd_machine.specs.Machine.{MachineData};
 ghost use Rattle.op_table.specs.declared.kinds.OpKind.{OpKind};
@@ -15,7 +15,7 @@ ghost use Rattle.claim_core.specs.Program.{ProgramData, opening_of, end_of};
 ghost use Rattle.std.specs.List.{AllByRecursion};
 ghost use Rattle.claim_history.specs.declared.event.Event.{Event};
 ghost use Rattle.claim_history.specs.Board.{BoardData, opening_board};
-ghost use Rattle.claim_history.specs.Enabled.{AllFinished, IsEnabled, IsLeastUnfinished};
+ghost use Rattle.claim_history.specs.Enabled.{AllFinished, HasGivenAll, IsEnabled, IsFinished, IsLeastUnfinished};
 ghost use Rattle.claim_history.specs.End.{HasItsTimes, cells_after};
 ghost use Rattle.claim_history.specs.Event.{Allowed, moved};
 ghost use Rattle.claim_history.specs.History.{IsBoardOf, IsHistory, board_of, commits, moment, ops_of};
@@ -57,6 +57,11 @@ pub fn same_items()
 /// On the board of every history the least operation that is not finished is enabled.
 pub fn least_enabled()
     ensures { (p : ProgramData) (b : BoardData) (k : ℕ) → IsLegalProgram p → IsBoardOf p b → IsLeastUnfinished p b k → IsEnabled p b k }
+{}
+
+/// After every history an operation is finished exactly where it has given all of its resources.
+pub fn finished_operations_gave_all()
+    ensures { (p : ProgramData) (workers : ℕ) (es : List Event) (k : ℕ) → IsLegalProgram p → IsHistory p workers es → IsFinished p (board_of p workers es) k ↔ HasGivenAll p es k }
 {}
 
 /// Where all operations are finished: the state is that at the end of the program; each operation is
