@@ -5,13 +5,9 @@ mod answer;
 mod edge;
 pub mod laws;
 mod limits;
-#[cfg(test)]
-mod machine_tests;
 mod output;
 mod programs;
 mod stages;
-#[cfg(test)]
-mod tests;
 mod top;
 
 pub use edge::start;
