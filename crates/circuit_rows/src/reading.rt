@@ -1,13 +1,21 @@
 //! Items and numbers as rows have them.
 
-use qccd_base::{Bit, BitList, Qubit, QubitList, read_number};
+use qccd_base::{Bit, BitList, NoMemory, Qubit, QubitList, read_number};
 use qccd_circuit::{AngleList, Item, ItemKind, Name, fits};
-use std::alloc::Global;
+use std::alloc::{AllocError, Global};
 use std::io;
 
 /// That a row can't be read.
 pub fn unread() -> io::Error {
     io::ErrorKind::InvalidInput.into()
+}
+
+/// Where memory ran out, that it did.
+pub fn taken<T>(outcome: Result<T, NoMemory>) -> io::Result<T> {
+    match outcome {
+        Ok(value) => Ok(value),
+        Err(NoMemory) => Err(AllocError.into()),
+    }
 }
 
 /// The number of a word, where there is one.
