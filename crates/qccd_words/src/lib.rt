@@ -2,8 +2,6 @@
 #![tactic(auto)]
 
 mod words;
-#[cfg(test)]
-mod words_tests;
 pub mod worked;
 
 pub use words::{Command, MachineWord, request};
