@@ -8,8 +8,6 @@ pub mod laws;
 mod parts;
 mod place;
 mod reader;
-#[cfg(test)]
-mod tests;
 pub mod worked;
 
 pub use fault::{Part, Spot, TextFault};
