@@ -6,8 +6,6 @@ pub mod laws;
 mod paths;
 mod routes;
 mod steps;
-#[cfg(test)]
-mod tests;
 mod wiring;
 pub mod worked;
 
