@@ -11,6 +11,3 @@ pub mod worked;
 pub use graph::Graph;
 pub use level::levels;
 pub use ready::Ready;
-
-#[cfg(test)]
-mod tests;
