@@ -6,6 +6,3 @@ mod schedule;
 pub mod worked;
 
 pub use schedule::order;
-
-#[cfg(test)]
-mod tests;
