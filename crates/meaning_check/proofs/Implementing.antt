@@ -1,8 +1,8 @@
 -- A legal program is the same exactly where it implements the circuit.
-use Rattle.std.proofs.Common.{◌≡◌, ℕ, zero, suc, ◌+◌, ◌<◌, ◌≤◌, ◌==◌, Bool, true, false, cond, eqb, nat_lt, List, [], ◌∷◌, map, length, get_or, Option, Some, None, refl, sym, ◌∙◌, ap, subst, arith, ◌⊎◌, inl, inr}
+use Rattle.std.proofs.Common.{◌≡◌, ℕ, zero, suc, ◌<◌, ◌≤◌, ◌==◌, Bool, true, false, cond, eqb, nat_lt, List, [], ◌∷◌, map, length, Option, Some, None, refl, sym, ◌∙◌, ap, subst, arith, ◌⊎◌, inl, inr}
 use Rattle.std.specs.Prelude.{slice_get, count_by, IfSome, IsTrue, if◌then◌else◌}
-use Rattle.std.specs.List.{All, AllByRecursion, list_any, cons_option}
-use Rattle.std.proofs.lemmas.Bool.{cases_Bool, cases_lt, cases_eq, eq-eqb, ne_eqb, lt-ltb, le-ltb, or_right}
+use Rattle.std.specs.List.{AllByRecursion, list_any, cons_option}
+use Rattle.std.proofs.lemmas.Bool.{cases_lt, cases_eq, eq-eqb, ne_eqb, lt-ltb, le-ltb, or_right}
 use Rattle.std.proofs.lemmas.List.Elements.{All-from_recursion, recursion_from_All}
 use Rattle.std.proofs.lemmas.Option.{same_Some, none-some, slice_get_within}
 use Rattle.qccd_circuit.specs.Circuit.{CircuitData}
@@ -17,7 +17,7 @@ use Rattle.op_table.proofs.Counts.{count_by-map}
 use Rattle.claim_core.specs.Implements.{Implements}
 use Rattle.claim_core.specs.Legal.{IsLegalProgram}
 use Rattle.claim_core.specs.Program.{ProgramData}
-use Rattle.meaning_check.specs.Verdict.{IsOfCircuit, has_number, HasEach, Overtakes, NoneOvertakes, HasItems}
+use Rattle.meaning_check.specs.Verdict.{IsOfCircuit, has_number, HasEach, NoneOvertakes, HasItems}
 
 -- ---- the items, operation by operation and together
 

@@ -1,5 +1,5 @@
 -- Exactly one verdict.
-use Rattle.std.proofs.Common.{◌≡◌, ℕ, ◌+◌, ◌<◌, ◌≤◌, List, [], ◌∷◌, length, Option, Some, None, refl, sym, ◌∙◌, ap, ap₂, subst, arith, ◌⊎◌, inl, inr}
+use Rattle.std.proofs.Common.{◌≡◌, ℕ, ◌≤◌, List, [], ◌∷◌, length, Option, Some, None, refl, ap, ap₂, subst, arith, inl, inr}
 use Rattle.std.specs.Prelude.{slice_get, IfSome}
 use Rattle.std.specs.List.{AllByRecursion, cons_option}
 use Rattle.std.proofs.lemmas.Bool.{cases_eq}
@@ -9,7 +9,6 @@ use Rattle.qccd_circuit.specs.Item.{ItemData}
 use Rattle.op_table.specs.declared.kinds.OpKind.{OpKind}
 use Rattle.op_table.specs.Run.{item_in, items_in}
 use Rattle.claim_core.specs.Program.{ProgramData}
-use Rattle.meaning_check.specs.Least.{no_number}
 use Rattle.meaning_check.specs.Verdict.{SameSizes, IsOfCircuit, HasEach, NoneOvertakes, HasItems, IsVerdict}
 use Rattle.meaning_check.specs.declared.verdict.Verdict.{Verdict}
 use Rattle.meaning_check.specs.declared.verdict.Verdict.TheVariants.{Sizes, Differs, Missing, Order, Same}

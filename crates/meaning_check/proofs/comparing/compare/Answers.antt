@@ -1,4 +1,4 @@
-use Rattle.std.proofs.Common.{◌≡◌, sym, subst, arith, List, Option, length}
+use Rattle.std.proofs.Common.{subst, arith, List, length}
 use Rattle.std.specs.Prelude.{IfNone}
 use Rattle.std.specs.List.{AllByRecursion}
 use Rattle.std.proofs.lemmas.List.Elements.{All-from_recursion}

@@ -1,4 +1,4 @@
-use Rattle.std.proofs.Common.{◌≡◌, ◌+◌, sym, ap, subst, arith}
+use Rattle.std.proofs.Common.{◌+◌, sym, ap, subst}
 use Rattle.meaning_check.proofs.Going.{AreSeen, seen_none, seen_one, seen_past}
 use Rattle.meaning_check.proofs.items.least_missing.Goals as goal
 use Rattle.meaning_check.proofs.items.least_missing.Goals.{in-Some+then-at-count, in-Some+else-at-count, in_default}

@@ -1,4 +1,4 @@
-use Rattle.std.proofs.Common.{arith, ◌≡◌, ◌-◌, ◌<◌, ◌≤◌, ◌∙◌, ◌∷◌, [], sym, ap, subst, ℕ, List, length, drop, get_or, Option, Some, None, option_map}
+use Rattle.std.proofs.Common.{arith, ◌≡◌, ◌-◌, ◌∙◌, ◌∷◌, sym, ap, subst, ℕ, List, length, drop, Some, None}
 use Rattle.std.specs.Prelude.{IfNone}
 use Rattle.std.proofs.lemmas.List.{drop_all}
 use Rattle.qccd_circuit.specs.Item.{ItemData}

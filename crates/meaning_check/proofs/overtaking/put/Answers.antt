@@ -1,7 +1,7 @@
-use Rattle.std.proofs.Common.{arith, ◌≡◌, ◌∙◌, sym, ap, ℕ, min, take, get_or}
-use Rattle.std.proofs.lemmas.List.{take_all, length-set}
+use Rattle.std.proofs.Common.{arith, ◌∙◌}
+use Rattle.std.proofs.lemmas.List.{length-set}
 use Rattle.qccd_circuit.specs.Operands.{operands_of}
-use Rattle.meaning_check.proofs.Leasts.{AreLeast-put, put_next, operand_below}
+use Rattle.meaning_check.proofs.Leasts.{put_next, operand_below}
 use Rattle.meaning_check.proofs.overtaking.put.Goals as goal
 
 pub offset_bounds-rows-row : goal.offset_bounds-rows-row
