@@ -12,6 +12,7 @@ ghost use Rattle.router.specs.Hops.{are_neighbours};
 ghost use Rattle.router.specs.Paths.{way_along};
 ghost use Rattle.router.specs.Wiring.{wiring_of};
 ghost use Rattle.rebalancer.specs.Hop.{along, arrive_by, crossing, hop_along, hop_ops, leave_by, leaving_end};
+ghost use Rattle.rebalancer.specs.Moves.{Moves};
 ghost use Rattle.rebalancer.specs.Outside.{NothingOutside};
 ghost use Rattle.rebalancer.specs.Room.{has_room};
 
@@ -25,7 +26,8 @@ use std::alloc::Global;
 
 /// Appends the operations that take the qubit to a neighbouring trap: it goes to the end of its chain, is
 /// split off, moved along each segment of the hop's path, taken through each junction, and merged. They are
-/// no more than the bound for a hop. Where memory runs out the plan may have some of them.
+/// no more than the bound for a hop, each other qubit stays in its trap, and nothing is left outside the traps.
+/// Where memory runs out the plan may have some of them.
 pub fn hop(
     alloc: Global,
     machine: &Machine,
@@ -43,6 +45,8 @@ pub fn hop(
     requires free { has_room machine.now (state_of plan.old) to.0 ≡ true }
     requires few { length plan.old.ops + hop_bound machine.now ≤ 4194304 }
     ensures done { OnOk result (plan.new ≡ with_ops plan.old (hop_ops machine.now (state_of plan.old) qubit to.0 mode)) }
+    ensures moves { Moves machine.now (state_of plan.old) qubit to.0 (hop_ops machine.now (state_of plan.old) qubit to.0 mode) }
+    ensures few { length (hop_ops machine.now (state_of plan.old) qubit to.0 mode) ≤ hop_bound machine.now }
     ensures refused { OnErr result (Continues plan.old plan.new) }
 {
     let _traps = machine.traps();

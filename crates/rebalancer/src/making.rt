@@ -11,6 +11,7 @@ ghost use Rattle.router.specs.Paths.{hop_path};
 ghost use Rattle.router.specs.Wiring.{wiring_of};
 ghost use Rattle.rebalancer.specs.Hop.{leaving_end};
 ghost use Rattle.rebalancer.specs.Goal.{better};
+ghost use Rattle.rebalancer.specs.Moves.{MakesRoom};
 ghost use Rattle.rebalancer.specs.Outside.{NothingOutside};
 ghost use Rattle.rebalancer.specs.Room.{first_free, hand_ops, handed, hands_ops, has_room, is_kept, nearest, pair_of, room_ops, way_to, LeadsToRoom};
 
@@ -55,6 +56,8 @@ pub fn make_room(
     requires outside { NothingOutside (state_of plan.old) }
     requires few { length plan.old.ops + (length machine.now.capacities - 1) * hop_bound machine.now ≤ 4194304 }
     ensures done { OnOk result (plan.new ≡ with_ops plan.old (room_ops machine.now (state_of plan.old) trap.0 (pair_of keep) mode)) }
+    ensures makes { MakesRoom machine.now (state_of plan.old) trap.0 (pair_of keep) (room_ops machine.now (state_of plan.old) trap.0 (pair_of keep) mode) }
+    ensures few { length (room_ops machine.now (state_of plan.old) trap.0 (pair_of keep) mode) ≤ (length machine.now.capacities - 1) * hop_bound machine.now }
     ensures refused { OnErr result (Continues plan.old plan.new) }
 {
     let _traps = machine.traps();
