@@ -1,8 +1,9 @@
 //! Why a command is refused, and what is told then.
 
-ghost use Rattle.std.specs.Prelude.{◌≡◌};
+ghost use Rattle.std.specs.Prelude.{◌≡◌, ◌∷◌, [], codes, decimal};
+ghost use Rattle.std.specs.List.{concat};
 ghost use Rattle.qccd_io.specs.Sends.{Sends};
-ghost use Rattle.qccd_refusals.specs.Cause.{cause_of, status_of};
+ghost use Rattle.qccd_refusals.specs.Cause.{TooLarge, Shortage, TooLong, cause_of, status_of};
 ghost use Rattle.qccd_refusals.specs.Message.{message_of};
 
 use loader::LoadFault;
@@ -10,7 +11,7 @@ use machine_text::TextFault;
 use meaning_check::Verdict;
 use qasm_reader::QasmKind;
 use qccd_base::number_text;
-use qccd_io::{Failed, Sink, send_all};
+use qccd_io::{Failed, Sink, send, send_all};
 use transport_asm::AsmKind;
 
 const USAGE: &[u8] = b"\
@@ -38,8 +39,8 @@ pub enum Refusal<'a> {
     Circuit { at: u32, kind: QasmKind },
     /// The machine has too few places for the circuit's qubits.
     Shortage { qubits: u32, slots: u32 },
-    /// The program grows past its limit of 4,194,304 operations: after `done` of the circuit's items it has
-    /// so many that the next one might not fit.
+    /// The program might grow past its limit of 4,194,304 operations with the next item: after `done` of the
+    /// circuit's items it has `ops` already.
     TooLong { done: u32, items: u32, ops: u32 },
     /// The program's text is refused for what stands on this line, counted from 1.
     Asm { line: u32, kind: AsmKind },
@@ -80,73 +81,90 @@ pub fn tell<E: Sink>(err: &mut E, refusal: &Refusal<'_>) -> Result<(), Failed>
     ensures { Sends E.taken E.faults E.behind err.old err.new result (message_of (cause_of refusal.now)) }
 {
     match *refusal {
-        Refusal::Words => send_all(err, &[USAGE]),
-        Refusal::Read { name } => send_all(err, &[b"qccd: cannot read ", name.as_bytes(), b"\n"]),
-        Refusal::Write => send_all(err, &[b"qccd: cannot write\n"]),
-        Refusal::TooLarge { name, limit } => send_all(
-            err,
-            &[
-                b"qccd: ",
-                name.as_bytes(),
-                b" has more than ",
-                number_text(limit.into()).as_bytes(),
-                b" bytes\n",
-            ],
-        ),
-        Refusal::Machine { fault } => send_all(
-            err,
-            &[b"qccd: machine: ", fault.text().as_bytes(), b"\n"],
-        ),
-        Refusal::Circuit { at, kind } => send_all(
-            err,
-            &[
-                b"qccd: circuit: byte ",
-                number_text(at.into()).as_bytes(),
-                b": ",
-                kind.text().as_bytes(),
-                b"\n",
-            ],
-        ),
-        Refusal::Shortage { qubits, slots } => send_all(
-            err,
-            &[
-                b"qccd: ",
-                number_text(qubits.into()).as_bytes(),
-                b" qubits, ",
-                number_text(slots.into()).as_bytes(),
-                b" slots\n",
-            ],
-        ),
-        Refusal::TooLong { done, items, ops } => send_all(
-            err,
-            &[
-                b"qccd: too long: ",
-                number_text(done.into()).as_bytes(),
-                b" of ",
-                number_text(items.into()).as_bytes(),
-                b" items took ",
-                number_text(ops.into()).as_bytes(),
-                b" operations, the limit is 4194304\n",
-            ],
-        ),
-        Refusal::Asm { line, kind } => send_all(
-            err,
-            &[
-                b"qccd: program: line ",
-                number_text(line.into()).as_bytes(),
-                b": ",
-                kind.text().as_bytes(),
-                b"\n",
-            ],
-        ),
-        Refusal::Load { fault } => send_all(
-            err,
-            &[b"qccd: program: ", fault.text().as_bytes(), b"\n"],
-        ),
-        Refusal::NotSame { verdict } => send_all(
-            err,
-            &[b"qccd: not the same: ", verdict.text().as_bytes(), b"\n"],
-        ),
-        Refusal::NoMemory => send_all(err, &[b"qccd: no memory\n"]),
+        Refusal::Words => send(err, USAGE),
+        Refusal::Read { name } => tell_text(err, b"qccd: cannot read ", name),
+        Refusal::Write => send(err, b"qccd: cannot write\n"),
+        Refusal::TooLarge { name, limit } => tell_too_large(err, name, limit),
+        Refusal::Machine { fault } => tell_text(err, b"qccd: machine: ", fault.text().as_str()),
+        Refusal::Circuit { at, kind } => tell_at(err, b"qccd: circuit: byte ", at, kind.text()),
+        Refusal::Shortage { qubits, slots } => tell_shortage(err, qubits, slots),
+        Refusal::TooLong { done, items, ops } => tell_too_long(err, done, items, ops),
+        Refusal::Asm { line, kind } => tell_at(err, b"qccd: program: line ", line, kind.text()),
+        Refusal::Load { fault } => tell_text(err, b"qccd: program: ", fault.text().as_str()),
+        Refusal::NotSame { verdict } => {
+            tell_text(err, b"qccd: not the same: ", verdict.text().as_str())
+        }
+        Refusal::NoMemory => send(err, b"qccd: no memory\n"),
     }
+}
+
+/// A line of what is wrong and a name or a fault.
+fn tell_text<E: Sink>(err: &mut E, label: &[u8], text: &str) -> Result<(), Failed>
+    ensures { Sends E.taken E.faults E.behind err.old err.new result (concat (label.now ∷ text.now ∷ codes "\n" ∷ [])) }
+{
+    send_all(err, &[label, text.as_bytes(), b"\n"])
+}
+
+/// A line of a place in a text that is refused, and why.
+fn tell_at<E: Sink>(err: &mut E, label: &[u8], place: u32, kind: &str) -> Result<(), Failed>
+    ensures { Sends E.taken E.faults E.behind err.old err.new result (concat (label.now ∷ decimal place ∷ codes ": " ∷ kind.now ∷ codes "\n" ∷ [])) }
+{
+    let place = number_text(place.into());
+    send_all(
+        err,
+        &[label, place.as_bytes(), b": ", kind.as_bytes(), b"\n"],
+    )
+}
+
+fn tell_too_large<E: Sink>(err: &mut E, name: &str, limit: u32) -> Result<(), Failed>
+    ensures { Sends E.taken E.faults E.behind err.old err.new result (message_of (TooLarge name.now limit)) }
+{
+    let limit = number_text(limit.into());
+    send_all(
+        err,
+        &[
+            b"qccd: ",
+            name.as_bytes(),
+            b" has more than ",
+            limit.as_bytes(),
+            b" bytes\n",
+        ],
+    )
+}
+
+fn tell_shortage<E: Sink>(err: &mut E, qubits: u32, slots: u32) -> Result<(), Failed>
+    ensures { Sends E.taken E.faults E.behind err.old err.new result (message_of (Shortage qubits slots)) }
+{
+    let qubits = number_text(qubits.into());
+    let slots = number_text(slots.into());
+    send_all(
+        err,
+        &[
+            b"qccd: ",
+            qubits.as_bytes(),
+            b" qubits, ",
+            slots.as_bytes(),
+            b" slots\n",
+        ],
+    )
+}
+
+fn tell_too_long<E: Sink>(err: &mut E, done: u32, items: u32, ops: u32) -> Result<(), Failed>
+    ensures { Sends E.taken E.faults E.behind err.old err.new result (message_of (TooLong done items ops)) }
+{
+    let done = number_text(done.into());
+    let items = number_text(items.into());
+    let ops = number_text(ops.into());
+    send_all(
+        err,
+        &[
+            b"qccd: too long: ",
+            done.as_bytes(),
+            b" of ",
+            items.as_bytes(),
+            b" items took ",
+            ops.as_bytes(),
+            b" operations, the limit is 4194304\n",
+        ],
+    )
 }
