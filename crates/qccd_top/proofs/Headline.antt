@@ -32,7 +32,7 @@ use Rattle.qccd_top.specs.Stages.{MachineIn, CircuitIn}
 use Rattle.qccd_top.specs.Means.{CompiledIn, LoadedIn, CheckedIn, TextOf, TextFor}
 use Rattle.qccd_top.specs.Call.{Call}
 use Rattle.qccd_top.specs.Done.{IsDone, IsCauseOf}
-use Rattle.qccd_top.specs.Headline.{AsksRun, AsksCompile, AsksExec, AsksCheck, AsksRehearsal, RunsWell, IsMeant, IsFaithful, IsCompiled, IsLoaded, IsChecked, IsReported, IsCutReport, IsProgramWritten, IsExecuted, IsSameTold, IsRehearsalOf, IsSummarized}
+use Rattle.qccd_top.specs.Headline.{AsksRun, AsksCompile, AsksExec, AsksCheck, AsksRehearsal, RunsWell, IsMeant, DoesCircuit, IsMeantProgram, IsLoaded, IsChecked, IsReported, IsCutReport, IsProgramWritten, IsExecuted, IsSameTold, IsRehearsalOf, IsSummarized}
 use Rattle.qccd_top.proofs.Loaded.{loaded_means, runs_well}
 
 -- the operations for all items are few where those before each item are
@@ -48,9 +48,9 @@ few_operations c m mode p whole valid is = by_count (length c.items) refl
         omega (arith, before, last, same, worst-small m valid)
 
 -- the chosen program does the circuit
-faithful : (c : CircuitData) (m : MachineData) (mode : Mode) (p : ProgramData) → IsCircuit c → IsValid m → IsProgramFor c m mode p → IsFaithful m c (chosen c m mode)
+does_circuit : (c : CircuitData) (m : MachineData) (mode : Mode) (p : ProgramData) → IsCircuit c → IsValid m → IsProgramFor c m mode p → DoesCircuit m c (chosen c m mode)
 unfolding chosen_first
-faithful c m mode p whole valid is =
+does_circuit c m mode p whole valid is =
     let legal : IsLegalProgram (chosen c m mode) = chosen_legal c m mode whole valid is.fits (few_operations c m mode p whole valid is) in
     record {
       whole = whole;
@@ -86,13 +86,13 @@ accepted c m mode whole valid fits short = record { fits = fits; room = room; is
 
 -- what is compiled is the program that is meant
 pub compiled : (told : Option Holding) (word : AskedMachine) (name : List ℕ) (mode : Mode) (p : ProgramData) → HasCapacity word
-    → CompiledIn told word name mode (Gives p) → IsCompiled told word name mode p
+    → CompiledIn told word name mode (Gives p) → IsMeantProgram told word name mode p
 unfolding ◌>>=◌
 compiled told word name mode p within (m, machine, (c, circuit, is)) =
     let (drawn, reads) = read_in told name c circuit in
-    let done = faithful c m mode p (keeps_the_rule drawn c reads) (valid_in told word m within machine) is in
+    let done = does_circuit c m mode p (keeps_the_rule drawn c reads) (valid_in told word m within machine) is in
     let meant : IsMeant told word name mode m c p = record { machine_in = machine; circuit_in = circuit; slots = is.fits; chosen = is.is_chosen } in
-    record { machine = m; circuit = c; meant = meant; faithful = subst (IsFaithful m c) (sym is.is_chosen) done }
+    record { machine = m; circuit = c; meant = meant; does_circuit = subst (DoesCircuit m c) (sym is.is_chosen) done }
 
 -- what is loaded is the program that the file holds
 loaded : (told : Option Holding) (word : AskedMachine) (name : List ℕ) (p : ProgramData) → HasCapacity word → LoadedIn told word name (Gives p) → IsLoaded told word name p
@@ -102,8 +102,8 @@ loaded told word name p within (m, machine, given) =
     record { machine = m; machine_in = machine; held = held; runs_well = runs_well m p (valid_in told word m within machine) held.on legal }
 
 -- a program with the verdict that it is the same does the circuit
-same_faithful : (c : CircuitData) (m : MachineData) (p : ProgramData) → IsCircuit c → RunsWell m p → IsVerdict c p Same → IsFaithful m c p
-same_faithful c m p whole well same = record { whole = whole; implements = implements_from c p m well.legal well.on same.0 same.1; runs_well = well }
+same_does_circuit : (c : CircuitData) (m : MachineData) (p : ProgramData) → IsCircuit c → RunsWell m p → IsVerdict c p Same → DoesCircuit m c p
+same_does_circuit c m p whole well same = record { whole = whole; implements = implements_from c p m well.legal well.on same.0 same.1; runs_well = well }
 
 -- what is checked is the program that the file holds, and does the circuit
 checked : (told : Option Holding) (word : AskedMachine) (name program_name : List ℕ) (p : ProgramData) → HasCapacity word
@@ -119,7 +119,7 @@ checked told word name program_name p within (m, machine, (c, circuit, (q, given
       machine_in = machine;
       circuit_in = circuit;
       held = held;
-      faithful = same_faithful c m q (keeps_the_rule drawn c reads) well same;
+      does_circuit = same_does_circuit c m q (keeps_the_rule drawn c reads) well same;
     } in
     subst (IsChecked told word name program_name) (sym is) done
 
@@ -131,7 +131,7 @@ meaning call asked text reading (other, also, means) =
 
 -- a text that a run means is the report of the program that is meant
 report_of : (call : Call) (asks : AsksRun call.words) (text : List ℕ) → TextFor call.told call.words (Gives text)
-    → (program : ProgramData) × IsCompiled call.told asks.word asks.name asks.mode program × (text ≡ report_text program)
+    → (program : ProgramData) × IsMeantProgram call.told asks.word asks.name asks.mode program × (text ≡ report_text program)
 unfolding ◌>>=◌
 report_of call asks text means =
     let run = AskedRun asks.word asks.name asks.workers asks.mode in
@@ -141,13 +141,13 @@ report_of call asks text means =
 pub headline : (call : Call) (asks : AsksRun call.words) → IsDone call → IsReported call asks
 headline call asks done =
     let (program, is, text) = report_of call asks done.text done.means in
-    record { program = program; is_compiled = is; written = done.written ∙ ap (appended call.out.old) text }
+    record { program = program; is_meant_program = is; written = done.written ∙ ap (appended call.out.old) text }
 
 -- with status 4 a prefix of it was taken
 pub cut : (call : Call) (asks : AsksRun call.words) (cause : Cause) → IsCauseOf call cause → status_of cause ≡ 4 → IsCutReport call asks
 cut call asks Write rests four =
     let (program, is, text) = report_of call asks rests.text rests.means in
-    record { program = program; is_compiled = is; prefix = subst (λ (t : List ℕ). TookPrefix call.out.old call.out.new t) text rests.prefix; rose = rests.rose }
+    record { program = program; is_meant_program = is; prefix = subst (λ (t : List ℕ). TookPrefix call.out.old call.out.new t) text rests.prefix; rose = rests.rose }
 cut call asks cause rests four = absurd (omega (arith, four))
 
 -- ---- other commands
@@ -159,7 +159,7 @@ program_written call asks done =
     let (p, given, text) = meaning call compile done.text asks.asked done.means in
     record {
       program = p;
-      is_compiled = compiled call.told asks.word asks.name asks.mode p (request-limits call.words compile asks.asked) given;
+      is_meant_program = compiled call.told asks.word asks.name asks.mode p (request-limits call.words compile asks.asked) given;
       written = done.written ∙ ap (appended call.out.old) text;
     }
 
@@ -198,8 +198,8 @@ summary_of call asks text (p, (m, machine, is), summary) =
     let valid = valid_in call.told asks.word m limits.0 machine in
     let c = generated asks.number asks.qubits asks.items in
     let whole = generated_circuit asks.number asks.qubits asks.items few.1 few.2 few.3 in
-    let done = faithful c m IonSwap p whole valid is in
-    (m, p, record { machine_in = machine; slots = is.fits; chosen = is.is_chosen; faithful = subst (IsFaithful m c) (sym is.is_chosen) done }, summary)
+    let done = does_circuit c m IonSwap p whole valid is in
+    (m, p, record { machine_in = machine; slots = is.fits; chosen = is.is_chosen; does_circuit = subst (DoesCircuit m c) (sym is.is_chosen) done }, summary)
 
 pub rehearsed : (call : Call) (asks : AsksRehearsal call.words) → IsDone call → IsSummarized call asks
 rehearsed call asks done =

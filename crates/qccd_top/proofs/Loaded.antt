@@ -23,7 +23,7 @@ use Rattle.tracer.proofs.Listed.{program-listed, program-bounds}
 use Rattle.qccd_refusals.specs.declared.refusal.Refusal.{Refusal}
 use Rattle.qccd_top.specs.Stage.{Gives, ◌>>=◌, viewed}
 use Rattle.qccd_top.specs.Stages.{ProgramIn}
-use Rattle.qccd_top.specs.Headline.{RunsWell, IsHeld}
+use Rattle.qccd_top.specs.Headline.{RunsWell, HoldsText}
 
 -- a refusal is seen as it is
 pub viewed_err : {A B : Type 0} (view : A → B) (r : Result A Refusal) (e : Refusal) → IsErrAnd r (λ y. y ≡ e) → IsErrAnd (viewed view r) (λ y. y ≡ e)
@@ -47,14 +47,14 @@ legal_loaded m raw within none =
     let parts = none_parts m raw none in
     legal_if_none m raw within.qubits within.bits within.few_ops (each_op raw.ops within.ops) (each_fits raw.ops within.ops) (start_is m raw.qubits raw.chains parts.0) parts.1
 
-held_text : (told : Option Holding) (name text : List ℕ) (m : MachineData) (raw : RawData) → HoldsFile told name text → Spells text raw → IsHeld told name m (on_machine m raw)
+held_text : (told : Option Holding) (name text : List ℕ) (m : MachineData) (raw : RawData) → HoldsFile told name text → Spells text raw → HoldsText told name m (on_machine m raw)
 unfolding program_text
 held_text told name text m raw held spells = record { held = subst (HoldsFile told name) (text_takes text raw spells).0 held; on = refl }
 
-pub loaded_means : (told : Option Holding) (name : List ℕ) (m : MachineData) (p : ProgramData) → ProgramIn told m name (Gives p) → IsHeld told name m p × IsLegalProgram p
+pub loaded_means : (told : Option Holding) (name : List ℕ) (m : MachineData) (p : ProgramData) → ProgramIn told m name (Gives p) → HoldsText told name m p × IsLegalProgram p
 unfolding ◌>>=◌
 loaded_means told name m p (raw, (text, (held, few), spells), (none, is)) =
-    subst (λ (q : ProgramData). IsHeld told name m q × IsLegalProgram q) (sym is)
+    subst (λ (q : ProgramData). HoldsText told name m q × IsLegalProgram q) (sym is)
     (held_text told name text m raw held spells, legal_loaded m raw (spelled_within text raw spells) none)
 
 -- a legal program runs well

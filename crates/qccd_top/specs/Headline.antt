@@ -76,7 +76,7 @@ pub record RunsWell (machine : MachineData) (program : ProgramData) : Type 0 whe
   pub operands : MeetsOperands program
 
 -- the program does the circuit on the machine: it implements it, and it runs well
-pub record IsFaithful (machine : MachineData) (circuit : CircuitData) (program : ProgramData) : Type 0 where
+pub record DoesCircuit (machine : MachineData) (circuit : CircuitData) (program : ProgramData) : Type 0 where
   pub whole : IsCircuit circuit
   pub implements : Implements program circuit machine
   pub runs_well : RunsWell machine program
@@ -91,14 +91,14 @@ pub record IsMeant (told : Option Holding) (word : AskedMachine) (name : List �
   pub chosen : program ≡ chosen circuit machine mode
 
 -- the program is the one meant, and does the circuit
-pub record IsCompiled (told : Option Holding) (word : AskedMachine) (name : List ℕ) (mode : Mode) (program : ProgramData) : Type 0 where
+pub record IsMeantProgram (told : Option Holding) (word : AskedMachine) (name : List ℕ) (mode : Mode) (program : ProgramData) : Type 0 where
   pub machine : MachineData
   pub circuit : CircuitData
   pub meant : IsMeant told word name mode machine circuit program
-  pub faithful : IsFaithful machine circuit program
+  pub does_circuit : DoesCircuit machine circuit program
 
 -- the file's bytes are the program's text, and the program is for this machine
-pub record IsHeld (told : Option Holding) (name : List ℕ) (machine : MachineData) (program : ProgramData) : Type 0 where
+pub record HoldsText (told : Option Holding) (name : List ℕ) (machine : MachineData) (program : ProgramData) : Type 0 where
   pub held : HoldsFile told name (program_text program)
   pub on : program.machine ≡ machine
 
@@ -106,7 +106,7 @@ pub record IsHeld (told : Option Holding) (name : List ℕ) (machine : MachineDa
 pub record IsLoaded (told : Option Holding) (word : AskedMachine) (name : List ℕ) (program : ProgramData) : Type 0 where
   pub machine : MachineData
   pub machine_in : MachineIn told word (Gives machine)
-  pub held : IsHeld told name machine program
+  pub held : HoldsText told name machine program
   pub runs_well : RunsWell machine program
 
 -- the one file's bytes are the text of this program for the machine, which does the circuit that the other file holds
@@ -115,28 +115,28 @@ pub record IsChecked (told : Option Holding) (word : AskedMachine) (name program
   pub circuit : CircuitData
   pub machine_in : MachineIn told word (Gives machine)
   pub circuit_in : CircuitIn told name (Gives circuit)
-  pub held : IsHeld told program_name machine program
-  pub faithful : IsFaithful machine circuit program
+  pub held : HoldsText told program_name machine program
+  pub does_circuit : DoesCircuit machine circuit program
 
 -- ---- what was written
 
 -- the report of the program meant was taken whole
 pub record IsReported (call : Call) (asks : AsksRun call.words) : Type 0 where
   pub program : ProgramData
-  pub is_compiled : IsCompiled call.told asks.word asks.name asks.mode program
+  pub is_meant_program : IsMeantProgram call.told asks.word asks.name asks.mode program
   pub written : call.out.new ≡ appended call.out.old (report_text program)
 
 -- a prefix of that report was taken, and the count of faults of `out` rose
 pub record IsCutReport (call : Call) (asks : AsksRun call.words) : Type 0 where
   pub program : ProgramData
-  pub is_compiled : IsCompiled call.told asks.word asks.name asks.mode program
+  pub is_meant_program : IsMeantProgram call.told asks.word asks.name asks.mode program
   pub prefix : TookPrefix call.out.old call.out.new (report_text program)
   pub rose : WriteFailed call.out
 
 -- the text of the program meant was taken whole
 pub record IsProgramWritten (call : Call) (asks : AsksCompile call.words) : Type 0 where
   pub program : ProgramData
-  pub is_compiled : IsCompiled call.told asks.word asks.name asks.mode program
+  pub is_meant_program : IsMeantProgram call.told asks.word asks.name asks.mode program
   pub written : call.out.new ≡ appended call.out.old (program_text program)
 
 -- the report of the program in the file was taken whole
@@ -157,7 +157,7 @@ pub record IsRehearsalOf (call : Call) (machine : MachineData) (program : Progra
   pub machine_in : MachineIn call.told asks.word (Gives machine)
   pub slots : asks.qubits ≤ slots_of machine
   pub chosen : program ≡ chosen (generated asks.number asks.qubits asks.items) machine IonSwap
-  pub faithful : IsFaithful machine (generated asks.number asks.qubits asks.items) program
+  pub does_circuit : DoesCircuit machine (generated asks.number asks.qubits asks.items) program
 
 -- the summary of that program was taken whole
 pub record IsSummarized (call : Call) (asks : AsksRehearsal call.words) : Type 0 where
