@@ -20,8 +20,6 @@ mod reading;
 mod registers;
 mod state;
 mod statements;
-#[cfg(test)]
-mod tests;
 mod words;
 pub mod worked;
 
