@@ -60,7 +60,7 @@ abbrev pub CircuitIn : Option Holding → List ℕ → Stage CircuitData
 CircuitIn told name = FileIn told name CIRCUIT_LIMIT >>= CircuitOf
 
 -- the program of the circuit on the machine: refused where the machine takes fewer qubits, and where the program
--- grows past its limit
+-- might grow past its limit with the next item
 abbrev pub Compiled : CircuitData → MachineData → Mode → Stage ProgramData
 Compiled c m mode (Gives p) = IsProgramFor c m mode p
 Compiled c m mode (Refuses (Shortage qubits slots)) = IsShortage c m qubits slots

@@ -25,6 +25,7 @@ ghost use Rattle.meaning_check.specs.Verdict.{IsVerdict};
 ghost use Rattle.meaning_check.specs.declared.verdict.Verdict.{Verdict};
 ghost use Rattle.meaning_check.specs.declared.verdict.Verdict.TheVariants.{Same};
 ghost use Rattle.qccd_words.specs.Words.{AskedMachine, OfPreset, OfFile, AskedRun, AskedCompile, AskedExec, AskedCheck, AskedRehearse, HasCapacity, request_of};
+ghost use Rattle.qccd_top.specs.declared.limits.TheConstants.{CIRCUIT_LIMIT, MACHINE_LIMIT, PROGRAM_LIMIT};
 ghost use Rattle.qccd_top.specs.Stage.{Gives};
 ghost use Rattle.qccd_top.specs.Stages.{MachineIn, CircuitIn, ProgramIn};
 ghost use Rattle.qccd_top.specs.Means.{TextOf};
@@ -52,7 +53,7 @@ pub fn missing_machine()
 pub fn large_machine()
     ensures { (words : List (List ℕ)) (held : Holding) (machine circuit text : List ℕ) (workers : ℕ) (mode : Mode)
         → request_of words ≡ Some (AskedRun (OfFile machine) circuit workers mode)
-        → held.file machine ≡ Some text → 1048576 < length text
+        → held.file machine ≡ Some text → MACHINE_LIMIT < length text
         → IsDue words held 5 }
 {}
 
@@ -60,7 +61,7 @@ pub fn large_machine()
 pub fn refused_machine()
     ensures { (words : List (List ℕ)) (held : Holding) (machine circuit text : List ℕ) (workers : ℕ) (mode : Mode) (fault : TextFault)
         → request_of words ≡ Some (AskedRun (OfFile machine) circuit workers mode)
-        → held.file machine ≡ Some text → length text ≤ 1048576 → IsRefusalOf text fault
+        → held.file machine ≡ Some text → length text ≤ MACHINE_LIMIT → IsRefusalOf text fault
         → IsDue words held 6 }
 {}
 
@@ -76,7 +77,7 @@ pub fn missing_circuit()
 pub fn large_circuit()
     ensures { (words : List (List ℕ)) (held : Holding) (machine : AskedMachine) (circuit text : List ℕ) (workers : ℕ) (mode : Mode) (m : MachineData)
         → request_of words ≡ Some (AskedRun machine circuit workers mode) → MachineIn (Some held) machine (Gives m)
-        → held.file circuit ≡ Some text → 16777216 < length text
+        → held.file circuit ≡ Some text → CIRCUIT_LIMIT < length text
         → IsDue words held 5 }
 {}
 
@@ -84,7 +85,7 @@ pub fn large_circuit()
 pub fn refused_circuit()
     ensures { (words : List (List ℕ)) (held : Holding) (machine : AskedMachine) (circuit text : List ℕ) (workers : ℕ) (mode : Mode) (m : MachineData) (at : ℕ) (kind : QasmKind)
         → request_of words ≡ Some (AskedRun machine circuit workers mode) → MachineIn (Some held) machine (Gives m)
-        → held.file circuit ≡ Some text → length text ≤ 16777216 → IsRefusedAt text at kind
+        → held.file circuit ≡ Some text → length text ≤ CIRCUIT_LIMIT → IsRefusedAt text at kind
         → IsDue words held 7 }
 {}
 
@@ -92,15 +93,15 @@ pub fn refused_circuit()
 pub fn too_few_slots()
     ensures { (words : List (List ℕ)) (held : Holding) (machine : AskedMachine) (circuit text : List ℕ) (workers : ℕ) (mode : Mode) (m : MachineData) (c : CircuitData)
         → request_of words ≡ Some (AskedRun machine circuit workers mode) → MachineIn (Some held) machine (Gives m)
-        → held.file circuit ≡ Some text → length text ≤ 16777216 → IsCircuitOf text c → slots_of m < c.qubits
+        → held.file circuit ≡ Some text → length text ≤ CIRCUIT_LIMIT → IsCircuitOf text c → slots_of m < c.qubits
         → IsDue words held 8 }
 {}
 
-/// The program grows past its limit: 9.
+/// The program might grow past its limit with the next item: 9.
 pub fn too_long()
     ensures { (words : List (List ℕ)) (held : Holding) (machine : AskedMachine) (circuit text : List ℕ) (workers : ℕ) (mode : Mode) (m : MachineData) (c : CircuitData) (done ops : ℕ)
         → request_of words ≡ Some (AskedRun machine circuit workers mode) → MachineIn (Some held) machine (Gives m)
-        → held.file circuit ≡ Some text → length text ≤ 16777216 → IsCircuitOf text c → c.qubits ≤ slots_of m
+        → held.file circuit ≡ Some text → length text ≤ CIRCUIT_LIMIT → IsCircuitOf text c → c.qubits ≤ slots_of m
         → IsTooLong c m mode done ops
         → IsDue words held 9 }
 {}
@@ -109,7 +110,7 @@ pub fn too_long()
 pub fn accepted_run()
     ensures { (words : List (List ℕ)) (held : Holding) (machine : AskedMachine) (circuit text : List ℕ) (workers : ℕ) (mode : Mode) (m : MachineData) (c : CircuitData)
         → request_of words ≡ Some (AskedRun machine circuit workers mode) → MachineIn (Some held) machine (Gives m)
-        → held.file circuit ≡ Some text → length text ≤ 16777216 → IsCircuitOf text c → c.qubits ≤ slots_of m
+        → held.file circuit ≡ Some text → length text ≤ CIRCUIT_LIMIT → IsCircuitOf text c → c.qubits ≤ slots_of m
         → length c.items * worst_of m ≤ 4194304
         → IsDue words held 0 }
 {}
@@ -118,7 +119,7 @@ pub fn accepted_run()
 pub fn accepted_compile()
     ensures { (words : List (List ℕ)) (held : Holding) (machine : AskedMachine) (circuit text : List ℕ) (mode : Mode) (m : MachineData) (c : CircuitData)
         → request_of words ≡ Some (AskedCompile machine circuit mode) → MachineIn (Some held) machine (Gives m)
-        → held.file circuit ≡ Some text → length text ≤ 16777216 → IsCircuitOf text c → c.qubits ≤ slots_of m
+        → held.file circuit ≡ Some text → length text ≤ CIRCUIT_LIMIT → IsCircuitOf text c → c.qubits ≤ slots_of m
         → length c.items * worst_of m ≤ 4194304
         → IsDue words held 0 }
 {}
@@ -135,7 +136,7 @@ pub fn missing_program()
 pub fn large_program()
     ensures { (words : List (List ℕ)) (held : Holding) (machine : AskedMachine) (program text : List ℕ) (workers : ℕ) (m : MachineData)
         → request_of words ≡ Some (AskedExec machine program workers) → MachineIn (Some held) machine (Gives m)
-        → held.file program ≡ Some text → 268435456 < length text
+        → held.file program ≡ Some text → PROGRAM_LIMIT < length text
         → IsDue words held 5 }
 {}
 
@@ -143,7 +144,7 @@ pub fn large_program()
 pub fn refused_program_text()
     ensures { (words : List (List ℕ)) (held : Holding) (machine : AskedMachine) (program text : List ℕ) (workers : ℕ) (m : MachineData) (line : ℕ) (kind : AsmKind)
         → request_of words ≡ Some (AskedExec machine program workers) → MachineIn (Some held) machine (Gives m)
-        → held.file program ≡ Some text → length text ≤ 268435456 → texts.IsRefusedAt text (refused line kind)
+        → held.file program ≡ Some text → length text ≤ PROGRAM_LIMIT → texts.IsRefusedAt text (refused line kind)
         → IsDue words held 10 }
 {}
 
@@ -151,7 +152,7 @@ pub fn refused_program_text()
 pub fn refused_program()
     ensures { (words : List (List ℕ)) (held : Holding) (machine : AskedMachine) (program text : List ℕ) (workers : ℕ) (m : MachineData) (raw : texts.RawData) (fault : LoadFault)
         → request_of words ≡ Some (AskedExec machine program workers) → MachineIn (Some held) machine (Gives m)
-        → held.file program ≡ Some text → length text ≤ 268435456 → texts.Spells text raw → load_refusal m raw ≡ Some fault
+        → held.file program ≡ Some text → length text ≤ PROGRAM_LIMIT → texts.Spells text raw → load_refusal m raw ≡ Some fault
         → IsDue words held 10 }
 {}
 
@@ -166,7 +167,7 @@ pub fn accepted_exec()
 pub fn circuit_before_program()
     ensures { (words : List (List ℕ)) (held : Holding) (machine : AskedMachine) (circuit program text : List ℕ) (m : MachineData) (at : ℕ) (kind : QasmKind)
         → request_of words ≡ Some (AskedCheck machine circuit program) → MachineIn (Some held) machine (Gives m)
-        → held.file circuit ≡ Some text → length text ≤ 16777216 → IsRefusedAt text at kind
+        → held.file circuit ≡ Some text → length text ≤ CIRCUIT_LIMIT → IsRefusedAt text at kind
         → IsDue words held 7 }
 {}
 
@@ -197,16 +198,16 @@ pub fn accepted_rehearsal()
 /// Which machine a word gives: one that is known by name, or that of a text that is held.
 pub fn machine_given()
     ensures preset { (held : Holding) (which : Preset) (capacity : ℕ) → MachineIn (Some held) (OfPreset which capacity) (Gives (preset_of which capacity)) }
-    ensures file { (held : Holding) (name text : List ℕ) (m : MachineData) → held.file name ≡ Some text → length text ≤ 1048576 → IsMachineOf text m
+    ensures file { (held : Holding) (name text : List ℕ) (m : MachineData) → held.file name ≡ Some text → length text ≤ MACHINE_LIMIT → IsMachineOf text m
         → MachineIn (Some held) (OfFile name) (Gives m) }
 {}
 
 /// Which circuit and which program a file gives: those of a text that is held. A program is given where what the
 /// text spells is a legal program of the machine.
 pub fn files_given()
-    ensures circuit { (held : Holding) (name text : List ℕ) (c : CircuitData) → held.file name ≡ Some text → length text ≤ 16777216 → IsCircuitOf text c
+    ensures circuit { (held : Holding) (name text : List ℕ) (c : CircuitData) → held.file name ≡ Some text → length text ≤ CIRCUIT_LIMIT → IsCircuitOf text c
         → CircuitIn (Some held) name (Gives c) }
-    ensures program { (held : Holding) (name text : List ℕ) (m : MachineData) (raw : texts.RawData) → held.file name ≡ Some text → length text ≤ 268435456
+    ensures program { (held : Holding) (name text : List ℕ) (m : MachineData) (raw : texts.RawData) → held.file name ≡ Some text → length text ≤ PROGRAM_LIMIT
         → texts.Spells text raw → IsLegalProgram (on_machine m raw)
         → ProgramIn (Some held) m name (Gives (on_machine m raw)) }
 {}
@@ -217,6 +218,6 @@ pub fn runs_what_is_compiled()
     ensures { (held : Holding) (machine : AskedMachine) (circuit program text report : List ℕ) (mode : Mode) (workers others : ℕ)
         → HasCapacity machine
         → TextOf (Some held) (AskedCompile machine circuit mode) (Gives text) → TextOf (Some held) (AskedRun machine circuit workers mode) (Gives report)
-        → held.file program ≡ Some text → length text ≤ 268435456
+        → held.file program ≡ Some text → length text ≤ PROGRAM_LIMIT
         → TextOf (Some held) (AskedExec machine program others) (Gives report) }
 {}

@@ -5,6 +5,7 @@ ghost use Rattle.qccd_io.specs.Shelf.{NoneIsOut};
 ghost use Rattle.transport_asm.specs.LineCursor.{raw_data};
 ghost use Rattle.transport_asm.specs.Writable.{IsWritableRaw};
 ghost use Rattle.qccd_words.specs.Words.{machine_asked, HasCapacity};
+ghost use Rattle.qccd_top.specs.declared.limits.TheConstants.{PROGRAM_LIMIT};
 ghost use Rattle.qccd_top.specs.Stage.{IsAnswer, Visits, viewed};
 ghost use Rattle.qccd_top.specs.Stages.{RawOf, RawIn, LoadedOn, ProgramIn, SameAs};
 ghost use Rattle.qccd_top.specs.Means.{LoadedIn, CheckedIn};
@@ -24,7 +25,7 @@ use transport_asm::{AsmFault, RawProgram, read_ops};
 
 /// The raw program that the text spells.
 fn raw_of<'a>(alloc: Global, text: &[u8]) -> Result<RawProgram, Refusal<'a>>
-    requires { length text.now ≤ 268435456 }
+    requires { length text.now ≤ PROGRAM_LIMIT }
     ensures answer { IsAnswer (RawOf text.now) (viewed raw_data result) }
     ensures limits { IfOk result (λ raw. IsWritableRaw (raw_data raw)) }
 {

@@ -6,6 +6,7 @@ ghost use Rattle.qccd_io.specs.Shelf.{NoneIsOut};
 ghost use Rattle.qccd_machine.specs.Preset.{preset_of};
 ghost use Rattle.rehearsal.specs.Generated.{generated};
 ghost use Rattle.qccd_words.specs.Words.{machine_asked, AreFew, HasCapacity};
+ghost use Rattle.qccd_top.specs.declared.limits.TheConstants.{CIRCUIT_LIMIT};
 ghost use Rattle.qccd_top.specs.Stage.{IsAnswer, Visits, Just, bytes_of};
 ghost use Rattle.qccd_top.specs.Stages.{FileIn, MachineOf, MachineIn, CircuitOf, CircuitIn, Compiled};
 ghost use Rattle.qccd_top.specs.Means.{CompiledIn, RehearsedIn};
@@ -86,7 +87,7 @@ pub fn machine_in<'a, F: Shelf>(
 
 /// The circuit of the text.
 fn circuit_of<'a>(alloc: Global, text: &[u8]) -> Result<Circuit, Refusal<'a>>
-    requires { length text.now ≤ 16777216 }
+    requires { length text.now ≤ CIRCUIT_LIMIT }
     ensures { IsAnswer (CircuitOf text.now) result }
 {
     match read(alloc, text) {

@@ -26,11 +26,10 @@ pub struct Status(pub u8);
 /// the summary of a rehearsal. With 4 a write failed, and `out` took a prefix of it; with any other status it
 /// took nothing. `err` is told why: 2 the words are of no form that is known, 3 a file could not be read, 5
 /// it has too many bytes, 6 the machine's file is refused, 7 the circuit's file is refused, 8 the machine
-/// takes fewer qubits, 9 with its next item the program might pass its limit, 10 the program's file is
-/// refused, 11 the program is not the same as the circuit, 12 out of memory. They are looked for in this
-/// order: words; the machine's file and the machine; the circuit's file and the circuit; its qubits; the
-/// program's length; the program's file and the program; the comparison; the writing. A fault of `err`
-/// changes no status.
+/// takes fewer qubits, 9 the program might grow past its limit with the next item, 10 the program's file is
+/// refused, 11 the program is not the same as the circuit, 12 out of memory. They are looked for in this order:
+/// words; the machine's file and the machine; the circuit's file and the circuit; its qubits; the program's
+/// length; the program's file and the program; the comparison; the writing. A fault of `err` changes no status.
 pub fn run<R: Threads + Sync, F: Shelf, O: Sink, E: Sink, P: Post>(
     _rt: &R,
     alloc: Global,

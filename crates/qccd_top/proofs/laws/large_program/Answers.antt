@@ -1,6 +1,7 @@
 use Rattle.std.proofs.Common.{refl, inl, inr}
 use Rattle.qccd_words.specs.Words.{AskedExec}
 use Rattle.qccd_refusals.specs.Cause.{TooLarge}
+use Rattle.qccd_top.specs.declared.limits.TheConstants.{PROGRAM_LIMIT}
 use Rattle.qccd_top.specs.Stage.{◌>>=◌}
 use Rattle.qccd_top.proofs.laws.large_program.Goals as goal
 
@@ -8,7 +9,7 @@ pub returns : goal.returns
 unfolding ◌>>=◌
 returns c = λ words held machine program text workers m reading given there large.
     inr (
-      TooLarge program 268435456,
+      TooLarge program PROGRAM_LIMIT,
       inr (AskedExec machine program workers, reading, inl (inr (m, given, inl (inl (refl, refl, (text, there, large)))))),
       refl,
     )
