@@ -1,0 +1,46 @@
+#!/bin/sh
+# How long it takes to claim, do and hand back an operation: one pass beside one thread that does the operations in
+# order with no claims, and then several threads, each on traps of its own. It checks nothing, and no test runs it.
+#
+#   bench/deck_speed.sh
+#
+# The program is crates/deck_rows, which `rt run` in its folder proves and builds. Its 65,536 gates stand in four
+# traps in turn, and there are sixteen decks, one after another. What it takes to make the cells or the decks, to
+# start the threads and to close is measured alone and taken off.
+set -u
+here=$(cd "$(dirname "$0")" && pwd) || exit 1
+program=$here/../crates/deck_rows/out/deck_rows
+gates=16384
+times=16
+rounds=9
+
+if ! [ -x "$program" ]; then
+    echo "the program is not built yet: call rt run in crates/deck_rows once" >&2
+    exit 1
+fi
+
+# The least wall time of some rounds in nanoseconds, of a line of the program.
+least_time() {
+    least=
+    round=0
+    while [ "$round" -lt "$rounds" ]; do
+        start=$(date +%s%N)
+        echo "$1" | "$program" >/dev/null || exit 1
+        took=$(($(date +%s%N) - start))
+        if [ -z "$least" ] || [ "$took" -lt "$least" ]; then least=$took; fi
+        round=$((round + 1))
+    done
+    echo "$least"
+}
+
+# Tells what an operation takes: a name, then the line without and with the operations.
+tell() {
+    without=$(least_time "$2") || exit 1
+    with=$(least_time "$3") || exit 1
+    echo "  $1 $(((with - without) / (4 * gates * times))) ns an operation"
+}
+echo "least wall time of $rounds rounds, $((4 * gates * times)) operations:"
+tell "in order, no deck" "order $gates 0 $times" "order $gates 1 $times"
+tell "one pass         " "parts $gates 1 0 $times" "parts $gates 1 1 $times"
+tell "two threads      " "parts $gates 2 0 $times" "parts $gates 2 1 $times"
+tell "four threads     " "parts $gates 4 0 $times" "parts $gates 4 1 $times"
