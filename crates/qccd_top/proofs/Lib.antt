@@ -1,5 +1,6 @@
 pub mod Chain
 pub mod Single
+pub mod Finishing
 pub mod Dues
 pub mod Judged
 pub mod Loaded

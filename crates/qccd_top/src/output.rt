@@ -1,10 +1,12 @@
 //! What a command writes at its end, gathered in large pieces.
 
-ghost use Rattle.std.specs.Prelude.{codes};
+ghost use Rattle.std.specs.Prelude.{◌≡◌, IfErr, codes};
+ghost use Rattle.qccd_io.specs.Sends.{Sends};
 ghost use Rattle.claim_core.specs.AllCells.{AtEnd};
 ghost use Rattle.transport_asm.specs.ProgramText.{program_text};
 ghost use Rattle.tracer.specs.Report.{report_text};
 ghost use Rattle.tracer.specs.Summary.{summary_text};
+ghost use Rattle.qccd_refusals.specs.declared.refusal.Refusal.TheVariants.{Write};
 ghost use Rattle.qccd_top.specs.Done.{Writes};
 
 use claim_core::{Program, run_in_order};
@@ -51,10 +53,7 @@ pub fn write_summary<'a, O: Sink>(
     let mut buffered = Buffered::of(&mut buffer, out);
     match tracer::write_summary(program, &cells, number, items, &mut buffered) {
         Err(Failed) => Err(Refusal::Write),
-        Ok(()) => match buffered.finish() {
-            Err(Failed) => Err(Refusal::Write),
-            Ok(()) => Ok(()),
-        },
+        Ok(()) => finish(buffered),
     }
 }
 
@@ -73,10 +72,7 @@ pub fn write_text<'a, O: Sink>(
     let mut buffered = Buffered::of(&mut buffer, out);
     match write_program(program, &mut buffered) {
         Err(Failed) => Err(Refusal::Write),
-        Ok(()) => match buffered.finish() {
-            Err(Failed) => Err(Refusal::Write),
-            Ok(()) => Ok(()),
-        },
+        Ok(()) => finish(buffered),
     }
 }
 
@@ -108,9 +104,17 @@ fn send_report<'a, O: Sink>(
     match tracer::write_report(alloc, program, cells, &mut buffered) {
         Err(ReportFault::Write) => Err(Refusal::Write),
         Err(ReportFault::NoMemory) => Err(Refusal::NoMemory),
-        Ok(()) => match buffered.finish() {
-            Err(Failed) => Err(Refusal::Write),
-            Ok(()) => Ok(()),
-        },
+        Ok(()) => finish(buffered),
+    }
+}
+
+/// Hands on what waits in the buffer, at the end of its use.
+fn finish<'a, O: Sink>(buffered: Buffered<'_, O>) -> Result<(), Refusal<'a>>
+    ensures sends { Sends O.taken O.faults O.behind buffered.entry.sink.now buffered.exit.0.now result buffered.entry.buffer.now }
+    ensures fault { IfErr result (λ r. r ≡ Write) }
+{
+    match buffered.finish() {
+        Err(Failed) => Err(Refusal::Write),
+        Ok(()) => Ok(()),
     }
 }
