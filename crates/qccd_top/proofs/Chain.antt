@@ -1,5 +1,5 @@
 -- What follows where one stage comes after another.
-use Rattle.std.proofs.Common.{◌≡◌, ℕ, ◌≤◌, ◌⊎◌, inl, inr, List, Option, Some, None, Result, Ok, Err, IsErrAnd, refl, sym, ◌∙◌, subst, arith}
+use Rattle.std.proofs.Common.{◌≡◌, ℕ, inl, inr, List, Option, Some, None, Result, Ok, Err, IsErrAnd, refl, sym, ◌∙◌, subst, arith}
 use Rattle.qccd_refusals.specs.declared.refusal.Refusal.{Refusal}
 use Rattle.qccd_refusals.specs.Cause.{Cause, Words, Read, Write, NoMemory, cause_of}
 use Rattle.qccd_io.specs.Faults.{Rose}
@@ -10,7 +10,7 @@ use Rattle.qccd_top.specs.Stages.{WordsOf}
 use Rattle.qccd_top.specs.Means.{TextOf, TextFor}
 use Rattle.qccd_top.specs.Call.{Output, output}
 use Rattle.qccd_top.specs.Done.{IsCause, Did, Does, Writes}
-use Rattle.qccd_top.specs.Stage.{Answer, Gives, Refuses, Fetches, Stage, ◌>>=◌, Just, IsRefusal, Answered, IsAnswer, Visits}
+use Rattle.qccd_top.specs.Stage.{Gives, Stage, ◌>>=◌, Just, IsRefusal, Answered, IsAnswer, Visits}
 
 -- both stages pass
 pub both : {A B : Type 0} (first : Stage A) (next : A → Stage B) (a : A) (b : B) → first (Gives a) → next a (Gives b) → (first >>= next) (Gives b)

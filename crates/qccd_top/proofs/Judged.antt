@@ -1,12 +1,12 @@
 -- Words are judged before all else.
-use Rattle.std.proofs.Common.{◌≡◌, ◌↔◌, ℕ, List, ◌⊎◌, inl, inr, Option, None, Result, Err, sym, ◌∙◌, ap, arith}
+use Rattle.std.proofs.Common.{◌≡◌, ℕ, List, inl, inr, Option, None, arith}
 use Rattle.qccd_io.specs.Shelf.{Holding}
 use Rattle.qccd_base.specs.declared.names.Mode.{Mode}
 use Rattle.qccd_words.specs.Words.{AskedMachine, OfPreset, OfFile, Asked, AskedRun, AskedCompile, AskedExec, AskedCheck, AskedRehearse, request_of}
 use Rattle.qccd_machine.specs.Machine.{MachineData}
 use Rattle.qccd_refusals.specs.Cause.{Cause, Words, status_of}
 use Rattle.qccd_top.specs.declared.limits.TheConstants.{CIRCUIT_LIMIT, MACHINE_LIMIT, PROGRAM_LIMIT}
-use Rattle.qccd_top.specs.Stage.{Stage, Refuses, ◌>>=◌, Just}
+use Rattle.qccd_top.specs.Stage.{Stage, Refuses, ◌>>=◌}
 use Rattle.qccd_top.specs.Stages.{FileIn, MachineOf, MachineIn, CircuitOf, CircuitIn, RawOf, RawIn, LoadedOn, ProgramIn}
 use Rattle.qccd_top.specs.Means.{CompiledIn, LoadedIn, CheckedIn, RehearsedIn, TextOf, TextFor}
 use Rattle.qccd_top.specs.Call.{Call}

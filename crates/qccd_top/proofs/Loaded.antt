@@ -1,5 +1,5 @@
 -- What is loaded is a legal program whose text is the file's.
-use Rattle.std.proofs.Common.{◌≡◌, ℕ, List, [], ◌∷◌, Option, Some, None, Result, Ok, Err, IsErrAnd, refl, sym, ap, subst}
+use Rattle.std.proofs.Common.{◌≡◌, ℕ, List, [], ◌∷◌, Option, None, Result, Ok, Err, IsErrAnd, refl, sym, subst}
 use Rattle.std.specs.List.{AllByRecursion}
 use Rattle.qccd_io.specs.Fetch.{HoldsFile}
 use Rattle.qccd_io.specs.Shelf.{Holding}
@@ -11,7 +11,7 @@ use Rattle.claim_core.specs.Legal.{IsLegalProgram}
 use Rattle.claim_core.specs.Program.{ProgramData, opening_of}
 use Rattle.claim_core.proofs.Meets.{run-meets}
 use Rattle.claim_core.proofs.Runs.{bounds-kept}
-use Rattle.transport_asm.specs.ProgramText.{program_text, spelled}
+use Rattle.transport_asm.specs.ProgramText.{program_text}
 use Rattle.transport_asm.specs.Texts.{RawData, Spells}
 use Rattle.transport_asm.specs.Writable.{IsWritable, IsWritableRaw}
 use Rattle.transport_asm.proofs.Rule.{raw_writable}

@@ -1,5 +1,5 @@
 -- A stage has one answer, where the shelf tells what it holds.
-use Rattle.std.proofs.Common.{◌≡◌, ◌≢◌, ℕ, ◌-◌, ◌<◌, ◌≤◌, ◌⊎◌, inl, inr, List, length, Option, Some, None, refl, sym, ◌∙◌, ap, subst, arith}
+use Rattle.std.proofs.Common.{◌≡◌, ℕ, ◌-◌, ◌<◌, ◌≤◌, inl, inr, List, length, Some, refl, sym, ◌∙◌, ap, subst, arith}
 use Rattle.qccd_base.specs.declared.names.Mode.{Mode}
 use Rattle.qccd_base.specs.declared.names.Mode.TheVariants.{IonSwap}
 use Rattle.qccd_io.specs.Shelf.{Holding}
@@ -24,7 +24,7 @@ use Rattle.qccd_refusals.specs.Cause.{Cause, Words, Read, TooLarge, Machine, Cir
 use Rattle.qccd_top.specs.declared.limits.TheConstants.{CIRCUIT_LIMIT, MACHINE_LIMIT, PROGRAM_LIMIT}
 use Rattle.qccd_top.specs.Stages.{WordsOf, FileIn, MachineOf, MachineIn, CircuitOf, CircuitIn, Compiled, RawOf, RawIn, LoadedOn, ProgramIn, SameAs}
 use Rattle.qccd_top.specs.Means.{CompiledIn, LoadedIn, CheckedIn, RehearsedIn, TextOf, TextFor}
-use Rattle.qccd_top.specs.Stage.{Answer, Gives, Refuses, Fetches, Stage, ◌>>=◌, Just}
+use Rattle.qccd_top.specs.Stage.{Gives, Refuses, Stage, ◌>>=◌, Just}
 
 pub record IsSingle {A : Type 0} (stage : Stage A) : Type 0 where
   pub given : (a b : A) → stage (Gives a) → stage (Gives b) → a ≡ b

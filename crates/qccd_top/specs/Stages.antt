@@ -17,9 +17,9 @@ use Rattle.loader.specs.Refusal.{on_machine, load_refusal}
 use Rattle.meaning_check.specs.Verdict.{IsVerdict}
 use Rattle.meaning_check.specs.declared.verdict.Verdict.TheVariants.{Same}
 use Rattle.qccd_words.specs.Words.{AskedMachine, OfPreset, OfFile, Asked, request_of}
-use Rattle.qccd_refusals.specs.Cause.{Cause, Words, Read, TooLarge, Machine, Circuit, Shortage, TooLong, Asm, Load, NotSame}
+use Rattle.qccd_refusals.specs.Cause.{Words, Read, TooLarge, Machine, Circuit, Shortage, TooLong, Asm, Load, NotSame}
 use Rattle.qccd_top.specs.declared.limits.TheConstants.{CIRCUIT_LIMIT, MACHINE_LIMIT, PROGRAM_LIMIT}
-use Rattle.qccd_top.specs.Stage.{Answer, Gives, Refuses, Fetches, Stage, ◌>>=◌, Just}
+use Rattle.qccd_top.specs.Stage.{Gives, Refuses, Fetches, Stage, ◌>>=◌, Just}
 
 -- what the words ask for
 abbrev pub WordsOf : List (List ℕ) → Stage Asked

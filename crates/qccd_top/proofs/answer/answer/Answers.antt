@@ -1,4 +1,4 @@
-use Rattle.std.proofs.Common.{refl, sym, ap, ◌∙◌, Some, map}
+use Rattle.std.proofs.Common.{refl, sym, ap, ◌∙◌, map}
 use Rattle.std.specs.Prelude.{option_map, string_bytes}
 use Rattle.std.proofs.Common.{Global}
 use Rattle.qccd_words.specs.Words.{asked}

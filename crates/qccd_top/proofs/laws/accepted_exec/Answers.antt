@@ -1,4 +1,4 @@
-use Rattle.std.proofs.Common.{refl, inl, inr}
+use Rattle.std.proofs.Common.{refl, inl}
 use Rattle.tracer.specs.Report.{report_text}
 use Rattle.qccd_words.specs.Words.{AskedExec}
 use Rattle.qccd_top.specs.Stage.{◌>>=◌}

@@ -1,4 +1,4 @@
-use Rattle.std.proofs.Common.{ℕ, ◌*◌, ◌≤◌, Some, refl, sym, subst, inl, inr}
+use Rattle.std.proofs.Common.{ℕ, ◌*◌, ◌≤◌, Some, refl, sym, subst, inl}
 use Rattle.qccd_base.specs.declared.names.Mode.TheVariants.{IonSwap}
 use Rattle.qccd_machine.specs.Machine.{worst_of}
 use Rattle.claim_core.specs.Program.{ProgramData}

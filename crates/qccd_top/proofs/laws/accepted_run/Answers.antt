@@ -1,4 +1,4 @@
-use Rattle.std.proofs.Common.{Some, refl, inl, inr}
+use Rattle.std.proofs.Common.{Some, refl, inl}
 use Rattle.qasm_reader.proofs.Answered.{keeps_the_rule}
 use Rattle.claim_core.specs.Program.{ProgramData}
 use Rattle.compiler.specs.Chosen.{chosen}
