@@ -1,10 +1,10 @@
 -- The cells that a claim got may be applied to, and then they are those to hand back.
 use Rattle.std.proofs.Common.{◌≡◌, ℕ, zero, suc, ◌+◌, ◌<◌, ◌≤◌, ◌^◌, true, List, [], ◌∷◌, length, map, take, get_or, refl, sym, ◌∙◌, ap, subst, arith, Option, Some, None}
 use Rattle.std.specs.List.{AllByRecursion}
-use Rattle.std.specs.Prelude.{slice_get, All}
+use Rattle.std.specs.Prelude.{slice_get}
 use Rattle.std.proofs.lemmas.List.Elements.{All-from_recursion, recursion_from_All}
 use Rattle.qccd_base.specs.declared.names.Res.{Res}
-use Rattle.qccd_machine.specs.Machine.{MachineData, IsValid}
+use Rattle.qccd_machine.specs.Machine.{IsValid}
 use Rattle.op_table.specs.declared.kinds.OpKind.{OpKind}
 use Rattle.op_table.specs.declared.contents.Content.{Content}
 use Rattle.op_table.specs.Act.{why_on}
@@ -15,7 +15,7 @@ use Rattle.op_cells.specs.Settled.{contents_of}
 use Rattle.op_cells.specs.declared.cells.Held.{Held}
 use Rattle.claim_core.specs.CellOfRun.{IsCell, cell_at, firsts}
 use Rattle.claim_core.specs.Legal.{IsLegalProgram}
-use Rattle.claim_core.specs.MeetsCells.{MeetsCells, own_cells, next_cells}
+use Rattle.claim_core.specs.MeetsCells.{MeetsCells, own_cells}
 use Rattle.claim_core.specs.Program.{ProgramData}
 use Rattle.claim_core.proofs.MeetsCells.{meets-cells}
 use Rattle.claim_history.specs.Event.{touched}

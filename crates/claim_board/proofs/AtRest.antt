@@ -1,10 +1,9 @@
 -- What is left where all passes were joined into one that has nothing in hand.
-use Rattle.std.proofs.Common.{◌≡◌, ◌≢◌, ℕ, zero, suc, ◌+◌, ◌-◌, ◌<◌, ◌≤◌, ◌⊎◌, inl, inr, Bool, true, false, cond, ◌&&◌, nat_lt, List, [], ◌∷◌, length, map, get_or, refl, sym, ◌∙◌, ap, subst, arith, Option, Some, None, sum_by}
-use Rattle.std.specs.Prelude.{slice_get}
+use Rattle.std.proofs.Common.{◌≡◌, ◌≢◌, ℕ, zero, suc, ◌+◌, ◌-◌, ◌<◌, ◌≤◌, ◌⊎◌, inl, inr, Bool, true, false, cond, ◌&&◌, nat_lt, List, [], ◌∷◌, length, map, get_or, refl, sym, ◌∙◌, ap, subst, arith, Option, Some, None}
 use Rattle.std.specs.List.{list_all}
 use mathlib.Core.Option.{some, some-injective, some-ne-none}
 use lib.ListN.{get_elem?}
-use Rattle.std.proofs.lemmas.Bool.{cases_Bool, false≢true, lt-ltb, cases_lt, or_right, false_from_ne_true}
+use Rattle.std.proofs.lemmas.Bool.{cases_Bool, false≢true, lt-ltb, cases_lt, or_right}
 use Rattle.std.proofs.lemmas.Option.{none-some}
 use Rattle.std.proofs.lemmas.List.Sums.{sum_by-cons}
 use Rattle.qccd_base.specs.Names.{trap, segment, junction, bit}
@@ -12,26 +11,24 @@ use Rattle.qccd_base.specs.declared.names.Res.{Res}
 use Rattle.qccd_base.specs.declared.names.Res.TheVariants as res
 use Rattle.qccd_base.specs.Resource.{among, same_res}
 use Rattle.qccd_base.proofs.Resources.{among-own}
-use Rattle.op_table.specs.declared.kinds.OpKind.{OpKind}
 use Rattle.op_table.specs.Touch.{nth}
 use Rattle.op_cells.specs.declared.cells.Cell.{Cell}
 use Rattle.op_cells.specs.Numbering.{index_of}
-use Rattle.atomic_table.specs.Table.{State, Final, Seen}
+use Rattle.atomic_table.specs.Table.{Final, Seen}
 use Rattle.claim_core.specs.CellOfRun.{IsCell}
 use Rattle.claim_core.specs.Program.{ProgramData}
 use Rattle.claim_history.specs.Board.{BoardData, is_there, width, turn_at, holder_at, hand_at}
 use Rattle.claim_history.specs.Event.{touched}
-use Rattle.claim_history.specs.Sound.{Reading, read, Unbegun, Finished}
-use Rattle.claim_history.proofs.Kept.{cases_ℕ}
+use Rattle.claim_history.specs.Sound.{read}
 use Rattle.claim_history.proofs.Legally.{claims-legal}
 use Rattle.claim_board.specs.declared.view.Key.{Key}
 use Rattle.claim_board.specs.declared.view.View.{View}
-use Rattle.claim_board.specs.Close.{NotBegun, Past, is_past, how_many, one_if, IsAtRest}
+use Rattle.claim_board.specs.Close.{is_past, how_many, one_if, IsAtRest}
 use Rattle.claim_board.specs.View.{turn_in, seen_of}
-use Rattle.claim_board.specs.Rule.{Shows, Ident, ident, IsLive, Numbers, stands, begun_of, all_begun, Ruled}
+use Rattle.claim_board.specs.Rule.{Ident, ident, IsLive, stands, begun_of, all_begun, Ruled}
 use Rattle.claim_board.proofs.Counting.{past-begun}
-use Rattle.claim_board.proofs.Looks.{small-turn, turn-found, seen-program}
-use Rattle.claim_board.proofs.Moves.{St, board, sound-rule, live-ident, number-below}
+use Rattle.claim_board.proofs.Looks.{small-turn, turn-found}
+use Rattle.claim_board.proofs.Moves.{St, board, sound-rule, live-ident}
 use Rattle.claim_board.proofs.Words.{cases_Option}
 
 -- each number is a resource's

@@ -1,25 +1,23 @@
 -- A Begin and a Reach keep the rule.
-use Rattle.std.proofs.Common.{◌≡◌, ◌≢◌, ℕ, zero, suc, ◌+◌, ◌*◌, ◌<◌, ◌≤◌, ◌⊎◌, ⊎_elim, inl, inr, Bool, true, false, cond, eqb, List, [], ◌∷◌, length, map, set, get_or, max, refl, sym, ◌∙◌, ap, subst, arith, Option, Some, None, length-set, get_or-set_same, get_or-set_other}
-use Rattle.std.specs.Prelude.{slice_get}
+use Rattle.std.proofs.Common.{◌≡◌, ◌≢◌, ℕ, ◌+◌, ◌*◌, ◌<◌, ◌≤◌, true, false, eqb, List, [], ◌∷◌, length, set, get_or, refl, sym, ◌∙◌, ap, subst, arith, Option, Some, None, length-set}
 use mathlib.Core.Option.{some, none}
 use lib.ListN.{get_elem?}
 use prog.Atomic.{either}
-use Rattle.std.proofs.lemmas.Bool.{cases_Bool, false≢true}
+use Rattle.std.proofs.lemmas.Bool.{false≢true}
 use Rattle.std.proofs.lemmas.Option.{same_Some}
 use Rattle.qccd_base.specs.declared.names.Res.{Res}
-use Rattle.qccd_base.specs.Resource.{same_res, among}
-use Rattle.qccd_base.proofs.Resources.{same_res-true, same_res-own}
+use Rattle.qccd_base.specs.Resource.{among}
+use Rattle.qccd_base.proofs.Resources.{same_res-true}
 use Rattle.op_table.specs.Touch.{nth, is_head}
 use Rattle.op_cells.specs.declared.cells.Cell.{Cell}
 use Rattle.op_cells.specs.Numbering.{index_of}
-use Rattle.atomic_table.specs.Table.{State, step, Allows, Act, Valid, stepped, carried_after, keeps, takes}
+use Rattle.atomic_table.specs.Table.{step, Allows, Act, Valid, stepped, carried_after, keeps, takes}
 use Rattle.atomic_table.proofs.Lists.{exchanged, set_else}
 use Rattle.claim_core.specs.CellOfRun.{IsCell}
 use Rattle.claim_core.specs.Program.{ProgramData}
-use Rattle.claim_history.specs.declared.board.Slot.{Slot}
 use Rattle.claim_history.specs.declared.event.Event.{Event}
-use Rattle.claim_history.specs.declared.event.Event.TheVariants.{Begin, Reach, Give}
-use Rattle.claim_history.specs.Board.{BoardData, HandData, is_there, width, slot_at, turn_at, holder_at, hand_at, flag_at, no_flags}
+use Rattle.claim_history.specs.declared.event.Event.TheVariants.{Begin, Reach}
+use Rattle.claim_history.specs.Board.{BoardData, HandData, is_there, slot_at, turn_at, holder_at, hand_at, flag_at}
 use Rattle.claim_history.specs.Event.{Allowed, moved, begun, touched, with_both, with_flag}
 use Rattle.claim_history.proofs.Kept.{first_among}
 use Rattle.claim_history.proofs.Legally.{claims-legal}
@@ -27,12 +25,12 @@ use Rattle.claim_history.proofs.Turns.{nth_same}
 use Rattle.claim_history.proofs.Written.{index_apart, index_below}
 use Rattle.claim_board.specs.declared.view.Key.{Key}
 use Rattle.claim_board.specs.declared.view.View.{View}
-use Rattle.claim_board.specs.Plays.{Knows, Taken, Takes, IsAt, IsAtFirst, MayBegin, MayReach, after_look, after_begin, after_reach, looked, began, reached}
-use Rattle.claim_board.specs.View.{word_of, turn_in, hand_of, seen_of, seen_also}
+use Rattle.claim_board.specs.Plays.{Knows, Takes, MayBegin, MayReach, after_look, after_begin, after_reach, began, reached}
+use Rattle.claim_board.specs.View.{hand_of, seen_of, seen_also}
 use Rattle.claim_board.specs.Rule.{IsHome, Ruled}
 use Rattle.claim_board.proofs.Boards.{all-free, begin-granted, reach-granted, hands-of}
 use Rattle.claim_board.proofs.Looks.{look-keeps, look-small, same-program, seen-here, seen-else, seen-long}
-use Rattle.claim_board.proofs.Moves.{St, board, sound-rule, live-ident, number-below, small-mark, moves, Turns}
+use Rattle.claim_board.proofs.Moves.{St, board, sound-rule, number-below, small-mark, moves, Turns}
 use Rattle.claim_board.proofs.Words.{free-word}
 
 -- the view with the deck's own program

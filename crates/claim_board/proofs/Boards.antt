@@ -1,26 +1,25 @@
 -- When an event may come on a sound board.
-use Rattle.std.proofs.Common.{◌≡◌, ◌≢◌, ℕ, zero, suc, ◌+◌, ◌<◌, ◌≤◌, ◌⊎◌, inl, inr, Bool, true, false, cond, not, ◌&&◌, ◌||◌, ◌==◌, List, [], ◌∷◌, ◌++◌, length, map, set, get_or, is_none, refl, sym, ◌∙◌, ap, subst, arith, Option, Some, None, length-set}
-use Rattle.std.specs.Prelude.{slice_get}
+use Rattle.std.proofs.Common.{◌≡◌, ◌≢◌, ℕ, ◌<◌, ◌≤◌, inl, inr, Bool, true, false, not, ◌==◌, List, [], ◌∷◌, ◌++◌, length, map, is_none, refl, sym, ◌∙◌, ap, arith, Option, Some, None, length-set}
 use Rattle.std.proofs.lemmas.Bool.{cases_Bool, false≢true, eq-eqb, and_from, or_cases}
-use Rattle.std.proofs.lemmas.Option.{same_Some, none-some}
+use Rattle.std.proofs.lemmas.Option.{none-some}
 use Rattle.std.proofs.lemmas.List.{length-replicate}
 use Rattle.qccd_base.specs.declared.names.Res.{Res}
 use Rattle.qccd_base.specs.FirstFailing.{first_failing}
 use Rattle.qccd_base.specs.Resource.{among, same_res}
 use Rattle.qccd_base.proofs.FirstFailing.{passes_first, first_failing-after}
-use Rattle.qccd_base.proofs.Resources.{same_res-true, among-own, same_res-own}
+use Rattle.qccd_base.proofs.Resources.{among-own}
 use Rattle.op_table.specs.declared.kinds.OpKind.{OpKind}
 use Rattle.op_table.specs.Touch.{nth, is_head}
 use Rattle.claim_core.specs.Legal.{IsLegalProgram}
 use Rattle.claim_core.specs.Program.{ProgramData}
 use Rattle.claim_history.specs.declared.event.ActFault.{ActFault}
-use Rattle.claim_history.specs.declared.event.ActFault.TheVariants.{NotYours, NotNow, Held, Untouched, Again, NotGot}
+use Rattle.claim_history.specs.declared.event.ActFault.TheVariants.{NotYours, Untouched, Again, NotGot}
 use Rattle.claim_history.specs.declared.event.Event.{Event}
 use Rattle.claim_history.specs.declared.event.Event.TheVariants.{Begin, Reach, Give}
-use Rattle.claim_history.specs.Board.{BoardData, HandData, turn_at, holder_at, hand_at, got_at, gave_at, idle, empty_hand, opening_board}
-use Rattle.claim_history.specs.Event.{touched, is_op, is_free, not_free, fault, needs, begun, moved, IsEvent, Allowed}
+use Rattle.claim_history.specs.Board.{BoardData, turn_at, holder_at, hand_at, got_at, gave_at, empty_hand, opening_board}
+use Rattle.claim_history.specs.Event.{touched, is_op, is_free, not_free, fault, begun, moved}
 use Rattle.claim_history.specs.History.{board_of, board_from, IsHistory}
-use Rattle.claim_history.specs.Sound.{Reading, read, Sound, IsSound, HandFits, IsHeld, Unbegun, Finished}
+use Rattle.claim_history.specs.Sound.{Reading, Sound, IsSound, HandFits, Unbegun}
 use Rattle.claim_history.proofs.Events.{history-sound, opening-sound}
 use Rattle.claim_history.proofs.Kept.{first_among}
 use Rattle.claim_history.proofs.Legally.{claims-legal}

@@ -1,13 +1,13 @@
 -- What a claim makes of a pass, step by step.
-use Rattle.std.proofs.Common.{◌≡◌, ◌≢◌, ℕ, zero, suc, ◌+◌, ◌*◌, ◌/◌, ◌%◌, ◌<◌, ◌≤◌, ◌⊎◌, inl, inr, Bool, true, false, cond, ◌||◌, ◌==◌, nat_lt, if◌then◌else◌, max, List, [], ◌∷◌, ◌++◌, length, map, take, drop, set, get_or, is_some, refl, sym, ◌∙◌, ap, subst, arith, Option, Some, None, length-set}
-use Rattle.std.specs.Prelude.{slice_get, All}
+use Rattle.std.proofs.Common.{◌≡◌, ◌≢◌, ℕ, zero, suc, ◌+◌, ◌*◌, ◌/◌, ◌%◌, ◌<◌, ◌≤◌, ◌⊎◌, inl, inr, Bool, true, false, ◌||◌, ◌==◌, nat_lt, if◌then◌else◌, max, List, [], ◌∷◌, ◌++◌, length, take, drop, get_or, is_some, refl, sym, ◌∙◌, ap, subst, arith, Option, Some, None, length-set}
+use Rattle.std.specs.Prelude.{slice_get}
 use Rattle.std.proofs.lemmas.Bool.{cases_Bool, false≢true, or_cases, or_left, or_right, lt-ltb, ltb-true, ltb-false, eq-eqb, eqb-true, false_from_ne_true, or_from}
 use Rattle.std.proofs.lemmas.Option.{same_Some, none-some}
 use Rattle.qccd_base.specs.declared.names.Res.{Res}
 use Rattle.std.proofs.lemmas.List.Elements.{All-push}
 use mathlib.Core.List.{map-append}
 use Rattle.qccd_base.specs.Resource.{same_res, among, IsAscending}
-use Rattle.qccd_base.proofs.Resources.{same_res-true, same_res-own, among-own, among-earlier, IsAscending-ascending}
+use Rattle.qccd_base.proofs.Resources.{same_res-true, same_res-own, among-earlier, IsAscending-ascending}
 use Rattle.op_table.specs.declared.kinds.OpKind.{OpKind}
 use Rattle.op_table.specs.Touch.{touches, named, nth, is_head}
 use Rattle.atomic_table.specs.Table.{rest}
@@ -22,9 +22,9 @@ use Rattle.claim_history.proofs.Written.{index_below, flag_set, flag_none}
 use Rattle.claim_board.specs.declared.claimed.Claimed.{Claimed}
 use Rattle.claim_board.specs.declared.claimed.Claimed.TheVariants.{Got, NotNow, Gone}
 use Rattle.claim_board.specs.declared.view.View.{View}
-use Rattle.claim_board.specs.Pass.{AreCells, HasFlags, empty_slots, Kept, HasRead, HasGot, Answered, why_not, told, Looked, Sits, HasTaken}
+use Rattle.claim_board.specs.Pass.{AreCells, HasFlags, empty_slots, Kept, HasRead, Answered, why_not, told, Looked, Sits, HasTaken}
 use Rattle.claim_board.specs.Plays.{Knows, MayBegin, MayReach, Takes, after_look, after_begin, after_reach}
-use Rattle.claim_board.specs.View.{turn_in, held_in, hand_of, seen_of, seen_also}
+use Rattle.claim_board.specs.View.{turn_in, held_in, seen_of, seen_also}
 
 -- what was seen rises
 pub seen-rises : (seen : List ℕ) (i n j : ℕ) → get_or seen j 0 ≤ get_or (seen_also seen i n) j 0

@@ -1,25 +1,22 @@
 -- A new pass keeps the rule.
-use Rattle.std.proofs.Common.{◌≡◌, ◌≢◌, ℕ, zero, suc, ◌+◌, ◌<◌, ◌≤◌, ◌⊎◌, ⊎_elim, inl, inr, Bool, true, false, List, [], ◌∷◌, ◌++◌, length, map, set, get_or, replicate, refl, sym, ◌∙◌, ap, subst, arith, Option, Some, None, length-set, sum_by}
+use Rattle.std.proofs.Common.{◌≡◌, ℕ, zero, suc, ◌+◌, ◌<◌, ◌⊎◌, inl, inr, true, List, [], ◌∷◌, ◌++◌, length, map, set, get_or, replicate, refl, sym, ◌∙◌, ap, subst, arith, None, length-set}
 use mathlib.Core.List.{map-append}
 use mathlib.Core.Option.{some, some-injective, some-ne-none}
-use lib.ListN.{get_elem?, length-map}
+use lib.ListN.{get_elem?}
 use lib.Seq.{map-set}
 use Rattle.std.proofs.lemmas.Bool.{cases_Bool, false≢true}
 use Rattle.std.proofs.lemmas.List.{length-replicate}
 use Rattle.std.proofs.lemmas.List.Sums.{sum_by_push}
-use Rattle.qccd_base.specs.declared.names.Res.{Res}
 use Rattle.op_cells.specs.Numbering.{index_of}
-use Rattle.atomic_table.specs.Table.{State, Splits}
+use Rattle.atomic_table.specs.Table.{Splits}
 use Rattle.atomic_table.proofs.Lists.{at_set, at_map, set_here, set_else}
-use Rattle.claim_core.specs.Program.{ProgramData}
-use Rattle.claim_history.specs.Board.{BoardData, is_there, width, turn_at, hand_at}
+use Rattle.claim_history.specs.Board.{BoardData, width, hand_at}
 use Rattle.claim_history.proofs.Kept.{cases_ℕ}
 use Rattle.claim_board.specs.declared.view.Key.{Key}
 use Rattle.claim_board.specs.declared.view.View.{View}
 use Rattle.claim_board.specs.Plays.{stays, comes}
-use Rattle.claim_board.specs.View.{seen_of}
-use Rattle.claim_board.specs.Rule.{Shows, Ident, ident, IsLive, Numbers, stands, begun_of, all_begun, Shown, Ruled}
-use Rattle.claim_board.proofs.Moves.{St, board, live-ident, sum-set}
+use Rattle.claim_board.specs.Rule.{Shows, Ident, ident, IsLive, Numbers, stands, begun_of, Ruled}
+use Rattle.claim_board.proofs.Moves.{board, live-ident, sum-set}
 use Rattle.claim_board.proofs.Words.{cases_Option}
 
 -- the last entry of a longer list, with its place

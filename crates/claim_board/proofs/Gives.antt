@@ -1,29 +1,28 @@
 -- A Give keeps the rule.
-use Rattle.std.proofs.Common.{◌≡◌, ◌≢◌, ℕ, zero, suc, ◌+◌, ◌*◌, ◌<◌, ◌≤◌, Bool, true, false, List, [], ◌∷◌, length, set, get_or, refl, sym, ◌∙◌, ap, subst, arith, Option, Some, None, length-set}
+use Rattle.std.proofs.Common.{◌≡◌, ℕ, suc, ◌+◌, ◌*◌, ◌<◌, true, false, List, ◌∷◌, length, set, refl, sym, ◌∙◌, ap, subst, arith, Option, Some, None, length-set}
 use mathlib.Core.Option.{some, none}
 use lib.ListN.{get_elem?}
-use Rattle.std.proofs.lemmas.Bool.{cases_Bool, false≢true}
+use Rattle.std.proofs.lemmas.Bool.{false≢true}
 use Rattle.std.proofs.lemmas.Option.{same_Some}
 use Rattle.qccd_base.specs.declared.names.Res.{Res}
-use Rattle.qccd_base.specs.Resource.{same_res, among}
+use Rattle.qccd_base.specs.Resource.{among}
 use Rattle.op_table.specs.Touch.{nth}
 use Rattle.op_cells.specs.declared.cells.Cell.{Cell}
 use Rattle.op_cells.specs.Numbering.{index_of}
-use Rattle.atomic_table.specs.Table.{State, step, Allows, Act, Valid, stepped, carried_after, gives, rest}
+use Rattle.atomic_table.specs.Table.{step, Allows, Act, Valid, stepped, carried_after, gives}
 use Rattle.atomic_table.proofs.Lists.{set_else, set_here}
 use Rattle.claim_core.specs.CellOfRun.{IsCell}
 use Rattle.claim_core.specs.Program.{ProgramData}
 use Rattle.claim_history.specs.declared.board.Slot.{Slot}
-use Rattle.claim_history.specs.declared.event.Event.{Event}
-use Rattle.claim_history.specs.declared.event.Event.TheVariants.{Begin, Reach, Give}
-use Rattle.claim_history.specs.Board.{BoardData, HandData, is_there, turn_at, holder_at, hand_at, flag_at}
+use Rattle.claim_history.specs.declared.event.Event.TheVariants.{Give}
+use Rattle.claim_history.specs.Board.{BoardData, HandData, is_there, turn_at, hand_at, flag_at}
 use Rattle.claim_history.specs.Event.{Allowed, moved, touched, with_both, with_flag, left_in_hand}
 use Rattle.claim_history.proofs.Written.{index_apart, index_below}
 use Rattle.claim_board.specs.declared.view.Key.{Key}
 use Rattle.claim_board.specs.declared.view.View.{View}
-use Rattle.claim_board.specs.Plays.{Knows, IsAt, MayGive, after_give, gave}
-use Rattle.claim_board.specs.View.{hand_of, seen_of, seen_also}
-use Rattle.claim_board.specs.Rule.{IsHome, Ruled}
+use Rattle.claim_board.specs.Plays.{MayGive, after_give, gave}
+use Rattle.claim_board.specs.View.{hand_of}
+use Rattle.claim_board.specs.Rule.{Ruled}
 use Rattle.claim_board.proofs.Begins.{on, on-same, touched-there, one-word}
 use Rattle.claim_board.proofs.Boards.{give-granted, hands-of}
 use Rattle.claim_board.proofs.Looks.{same-program, seen-here, seen-else, seen-long}

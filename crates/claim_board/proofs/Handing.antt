@@ -3,13 +3,11 @@ use Rattle.std.proofs.Common.{◌≡◌, ◌≢◌, ℕ, zero, suc, ◌+◌, ◌
 use Rattle.std.specs.Prelude.{slice_get, All}
 use mathlib.Core.List.{map-append}
 use lib.ListN.{get_or-append}
-use Rattle.std.specs.List.{list_all}
 use Rattle.std.proofs.lemmas.Bool.{false≢true, or_cases, or_left, or_right, or_from}
 use Rattle.std.proofs.lemmas.Option.{same_Some, none-some}
 use Rattle.qccd_base.specs.declared.names.Res.{Res}
 use Rattle.qccd_base.specs.Resource.{same_res, among}
-use Rattle.qccd_base.proofs.Resources.{same_res-true, same_res-own, among-own}
-use Rattle.op_table.specs.declared.kinds.OpKind.{OpKind}
+use Rattle.qccd_base.proofs.Resources.{same_res-true, among-own}
 use Rattle.op_table.specs.Touch.{nth}
 use Rattle.op_cells.specs.declared.cells.Cell.{Cell}
 use Rattle.op_cells.specs.declared.cells.Held.{Held}

@@ -1,6 +1,5 @@
 -- A pass that takes in another keeps the rule.
 use Rattle.std.proofs.Common.{◌≡◌, ◌≢◌, ℕ, zero, suc, ◌+◌, ◌<◌, ◌≤◌, ◌⊎◌, inl, inr, Bool, true, false, ◌||◌, ◌==◌, max, List, [], ◌∷◌, ◌++◌, length, map, set, get_or, refl, sym, ◌∙◌, ap, subst, arith, Option, Some, None, sum_by}
-use Rattle.std.specs.List.{list_any}
 use mathlib.Core.Option.{some, some-injective}
 use lib.ListN.{get_elem?}
 use lib.Seq.{map-set}
@@ -8,7 +7,7 @@ use Rattle.std.proofs.lemmas.Bool.{cases_Bool, false≢true, or_cases, eqb-true,
 use Rattle.std.proofs.lemmas.Option.{none-some}
 use Rattle.qccd_base.specs.declared.names.Res.{Res}
 use Rattle.op_cells.specs.Numbering.{index_of}
-use Rattle.atomic_table.specs.Table.{State, Joins}
+use Rattle.atomic_table.specs.Table.{Joins}
 use Rattle.atomic_table.proofs.Lists.{at_set, set_here, set_else}
 use Rattle.claim_core.specs.Program.{ProgramData}
 use Rattle.claim_history.specs.Board.{BoardData, is_there, turn_at, hand_at}
@@ -17,9 +16,9 @@ use Rattle.claim_board.specs.declared.view.Key.{Key}
 use Rattle.claim_board.specs.declared.view.View.{View}
 use Rattle.claim_board.specs.Plays.{joined, spent}
 use Rattle.claim_board.specs.View.{seen_of, greater_of}
-use Rattle.claim_board.specs.Rule.{Shows, Ident, ident, IsLive, Numbers, stands, begun_of, all_begun, Shown, Ruled}
+use Rattle.claim_board.specs.Rule.{Shows, Ident, ident, IsLive, Numbers, stands, begun_of, Ruled}
 use Rattle.claim_board.proofs.Cuts.{there-below}
-use Rattle.claim_board.proofs.Moves.{St, board, live-ident, sum-set}
+use Rattle.claim_board.proofs.Moves.{board, live-ident, sum-set}
 
 -- a number in a longer list
 stands-append : (n : ℕ) (xs ys : List ℕ) → stands n (xs ++ ys) ≡ true → (stands n xs ≡ true) ⊎ (stands n ys ≡ true)

@@ -1,5 +1,5 @@
 -- A look at a word keeps the rule.
-use Rattle.std.proofs.Common.{◌≡◌, ◌≢◌, ℕ, zero, suc, ◌+◌, ◌*◌, ◌<◌, ◌≤◌, ◌⊎◌, ⊎_elim, inl, inr, Bool, true, false, cond, List, [], ◌∷◌, length, map, set, get_or, max, refl, sym, ◌∙◌, ap, subst, arith, Option, Some, None, length-set, get_or-set_same, get_or-set_other}
+use Rattle.std.proofs.Common.{◌≡◌, ◌≢◌, ℕ, ◌<◌, ◌≤◌, ⊎_elim, inl, inr, true, cond, List, length, map, set, get_or, max, refl, sym, ◌∙◌, ap, subst, arith, Option, Some, length-set, get_or-set_same, get_or-set_other}
 use mathlib.Core.Option.{some, none}
 use lib.ListN.{get_elem?}
 use lib.Seq.{set-get_or}
@@ -12,16 +12,15 @@ use Rattle.op_cells.specs.Numbering.{index_of}
 use Rattle.atomic_table.specs.Table.{State, step, Allows, keeps}
 use Rattle.atomic_table.proofs.Lists.{at_set}
 use Rattle.claim_core.specs.Program.{ProgramData}
-use Rattle.claim_history.specs.declared.board.Slot.{Slot}
 use Rattle.claim_history.specs.Board.{BoardData, is_there, width, slot_at, turn_at}
 use Rattle.claim_history.proofs.Written.{index_apart, index_below}
 use Rattle.claim_history.proofs.Turns.{nth_all}
 use Rattle.claim_board.specs.declared.view.Key.{Key}
 use Rattle.claim_board.specs.declared.view.View.{View}
-use Rattle.claim_board.specs.Plays.{Knows, Taken, after_look, looked}
-use Rattle.claim_board.specs.View.{word_of, turn_in, hand_of, seen_of, seen_also}
-use Rattle.claim_board.specs.Rule.{Shows, Ident, ident, IsLive, Numbers, begun_of, all_begun, Shown, Ruled}
-use Rattle.claim_board.proofs.Moves.{St, board, sound-rule, live-ident, small-mark, same-map, sum-set}
+use Rattle.claim_board.specs.Plays.{Knows, after_look, looked}
+use Rattle.claim_board.specs.View.{turn_in, hand_of, seen_of, seen_also}
+use Rattle.claim_board.specs.Rule.{Shows, Ident, ident, IsLive, Numbers, begun_of, Ruled}
+use Rattle.claim_board.proofs.Moves.{St, board, sound-rule, small-mark, same-map, sum-set}
 use Rattle.claim_board.proofs.Words.{turn-word}
 
 -- a pass that differs in what it has seen alone, and in what it looked at

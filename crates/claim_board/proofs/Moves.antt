@@ -1,11 +1,10 @@
 -- An event that a pass makes keeps the rule.
-use Rattle.std.proofs.Common.{◌≡◌, ◌≢◌, ℕ, zero, suc, ◌+◌, ◌*◌, ◌<◌, ◌≤◌, ◌⊎◌, ⊎_elim, inl, inr, Bool, true, false, cond, List, [], ◌∷◌, ◌++◌, length, map, set, get_or, refl, sym, ◌∙◌, ap, subst, arith, Option, Some, None, length-set, get_or-set_same, get_or-set_other, sum_by}
+use Rattle.std.proofs.Common.{◌≡◌, ◌≢◌, ℕ, zero, suc, ◌+◌, ◌<◌, ◌≤◌, ⊎_elim, inl, inr, Bool, true, false, cond, List, [], ◌∷◌, ◌++◌, length, map, set, get_or, sym, ◌∙◌, ap, subst, arith, Option, Some, None, length-set, get_or-set_same, get_or-set_other, sum_by}
 use mathlib.Core.Option.{some, some-injective, some-ne-none}
 use mathlib.Core.Option as maybe
 use lib.ListN.{get_elem?}
 use lib.Seq.{map-set}
 use Rattle.std.proofs.lemmas.Bool.{cases_Bool, false≢true}
-use Rattle.std.proofs.lemmas.Option.{same_Some, none-some}
 use Rattle.std.proofs.lemmas.List.Sums.{sum_by-append, sum_by-cons}
 use Rattle.qccd_base.specs.declared.names.Res.{Res}
 use Rattle.qccd_base.specs.Resource.{same_res}
@@ -18,9 +17,9 @@ use Rattle.claim_core.specs.CellOfRun.{IsCell}
 use Rattle.claim_core.specs.Program.{ProgramData}
 use Rattle.claim_history.specs.declared.board.Slot.{Slot}
 use Rattle.claim_history.specs.declared.event.Event.{Event}
-use Rattle.claim_history.specs.Board.{BoardData, HandData, is_there, width, free_slot, slot_at, turn_at, holder_at, hand_at, opening_board}
+use Rattle.claim_history.specs.Board.{BoardData, HandData, is_there, free_slot, slot_at, turn_at, holder_at, hand_at, opening_board}
 use Rattle.claim_history.specs.Event.{Allowed, moved, with_both}
-use Rattle.claim_history.specs.History.{IsHistory, board_of}
+use Rattle.claim_history.specs.History.{board_of}
 use Rattle.claim_history.specs.Sound.{IsSound}
 use Rattle.claim_history.proofs.Events.{history-more}
 use Rattle.claim_history.proofs.Kept.{cases_ℕ}

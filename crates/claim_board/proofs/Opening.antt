@@ -1,8 +1,7 @@
 -- A deck as it is dealt keeps the rule.
-use Rattle.std.proofs.Common.{◌≡◌, ◌≢◌, ℕ, zero, suc, ◌+◌, ◌<◌, ◌≤◌, Bool, true, false, List, [], ◌∷◌, length, map, get_or, replicate, refl, sym, ◌∙◌, ap, subst, arith, Option, Some, None, sum_by}
+use Rattle.std.proofs.Common.{◌≡◌, ℕ, zero, suc, ◌<◌, ◌≤◌, true, List, [], ◌∷◌, length, map, get_or, replicate, refl, sym, ◌∙◌, ap, subst, arith, Option, Some}
 use Rattle.std.specs.Prelude.{slice_get}
 use mathlib.Core.Option.{some, some-injective, some-ne-none}
-use mathlib.Core.Option as maybe
 use lib.ListN.{get_elem?}
 use Rattle.std.proofs.lemmas.Bool.{false≢true, ltb-true}
 use Rattle.std.proofs.lemmas.Option.{same_Some, none-some}
@@ -10,23 +9,21 @@ use Rattle.std.proofs.lemmas.List.{length-replicate}
 use Rattle.std.proofs.lemmas.List.Sums.{sum_by-cons}
 use Rattle.qccd_base.specs.declared.names.Res.{Res}
 use Rattle.qccd_base.specs.declared.names.Res.TheVariants as res
-use Rattle.op_table.specs.Touch.{nth}
 use Rattle.op_cells.specs.declared.cells.Cell.{Cell}
 use Rattle.op_cells.specs.Numbering.{index_of, IsThere}
-use Rattle.atomic_table.specs.Table.{State, opening}
+use Rattle.atomic_table.specs.Table.{opening}
 use Rattle.atomic_table.proofs.Lists.{at_map}
-use Rattle.claim_core.specs.AllCells.{AtStep, AtTurns}
+use Rattle.claim_core.specs.AllCells.{AtStep}
 use Rattle.claim_core.specs.CellOfRun.{IsCell}
 use Rattle.claim_core.specs.Legal.{IsLegalProgram}
 use Rattle.claim_core.specs.Program.{ProgramData}
 use Rattle.claim_history.specs.declared.board.Slot.{Slot}
-use Rattle.claim_history.specs.Board.{BoardData, is_there, width, slot_at, turn_at, holder_at, hand_at, free_slot, opening_board}
+use Rattle.claim_history.specs.Board.{BoardData, is_there, width, opening_board}
 use Rattle.claim_history.proofs.Events.{slot_opening, hand_opening}
 use Rattle.claim_board.proofs.Handing.{map-long}
 use Rattle.claim_board.specs.declared.view.Key.{Key}
-use Rattle.claim_board.specs.declared.view.View.{View}
-use Rattle.claim_board.specs.View.{word_of, seen_of}
-use Rattle.claim_board.specs.Rule.{Shows, Ident, ident, IsLive, Numbers, stands, begun_of, all_begun, IsHome, Shown, Ruled, first_view}
+use Rattle.claim_board.specs.View.{word_of}
+use Rattle.claim_board.specs.Rule.{Shows, Ident, ident, IsLive, Numbers, stands, begun_of, Ruled, first_view}
 
 -- a resource whose test passes is there
 pub there-true : (p : ProgramData) (r : Res) → is_there p r ≡ true → IsThere p.machine p.bits r

@@ -1,10 +1,9 @@
 -- What a closed deck shows, read off its closed table.
-use Rattle.std.proofs.Common.{◌≡◌, ℕ, zero, suc, ◌+◌, ◌<◌, ◌≤◌, ◌⊎◌, inl, inr, Bool, true, List, [], ◌∷◌, length, map, get_or, refl, sym, ◌∙◌, ap, subst, arith, Option, Some, None, sum_by}
+use Rattle.std.proofs.Common.{◌≡◌, ℕ, zero, suc, ◌<◌, ◌≤◌, inl, inr, true, List, [], ◌∷◌, length, map, get_or, refl, sym, ◌∙◌, ap, subst, arith, Option, Some, sum_by}
 use Rattle.std.specs.Prelude.{slice_get, All}
 use mathlib.Core.Option.{some, some-injective, some-ne-none}
 use lib.ListN.{get_elem?, get_or-map}
 use Rattle.std.proofs.lemmas.Bool.{lt-ltb}
-use Rattle.std.proofs.lemmas.Option.{same_Some}
 use Rattle.qccd_base.specs.declared.names.Res.{Res}
 use Rattle.qccd_base.specs.declared.names.Res.TheVariants as res
 use Rattle.op_cells.specs.declared.cells.Cell.{Cell}
@@ -13,7 +12,7 @@ use Rattle.atomic_table.specs.Table.{Final, Seen}
 use Rattle.claim_core.specs.AllCells.{AtTurns}
 use Rattle.claim_core.specs.CellOfRun.{IsCell}
 use Rattle.claim_core.specs.Program.{ProgramData}
-use Rattle.claim_history.specs.Board.{is_there, width}
+use Rattle.claim_history.specs.Board.{is_there}
 use Rattle.claim_board.specs.declared.deck.Deck.{Deck}
 use Rattle.claim_board.specs.declared.pass.Pass.{Pass}
 use Rattle.claim_board.specs.declared.view.View.{View}
@@ -21,7 +20,7 @@ use Rattle.claim_board.specs.Close.{IsAtRest, turn_of}
 use Rattle.claim_board.specs.Deck.{AreAll, HasJoined, program_of, view_of, workers_of}
 use Rattle.claim_board.specs.Rule.{Ruled, stands}
 use Rattle.claim_board.specs.View.{seen_of, turn_in}
-use Rattle.claim_board.proofs.AtRest.{HasNumber, IsClosed, IsLast, closed-final, numbered}
+use Rattle.claim_board.proofs.AtRest.{IsClosed, IsLast, closed-final, numbered}
 use Rattle.claim_board.proofs.Handing.{map-long}
 
 there_from : (p : ProgramData) (r : Res) → IsThere p.machine p.bits r → is_there p r ≡ true

@@ -1,5 +1,5 @@
 -- What a pass has in hand, what a claim answers, and what it leaves.
-use Rattle.std.specs.Prelude.{◌≡◌, ◌≢◌, ◌⊎◌, ℕ, ◌+◌, ◌<◌, ◌≤◌, ◌*◌, ◌==◌, Bool, true, false, nat_lt, if◌then◌else◌, List, [], ◌∷◌, length, map, take, drop, All, Option, Some, None}
+use Rattle.std.specs.Prelude.{◌≡◌, ◌⊎◌, ℕ, ◌+◌, ◌<◌, ◌≤◌, ◌*◌, ◌==◌, Bool, true, nat_lt, if◌then◌else◌, List, [], ◌∷◌, length, map, take, drop, All, Option, Some, None}
 use Rattle.qccd_base.specs.declared.names.Res.{Res}
 use Rattle.qccd_base.specs.Resource.{among}
 use Rattle.op_table.specs.Touch.{nth}

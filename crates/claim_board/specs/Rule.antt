@@ -1,5 +1,5 @@
 -- The rule of a deck: what its words, the cells at home and all passes show between any two steps.
-use Rattle.std.specs.Prelude.{◌≡◌, ℕ, ◌+◌, ◌<◌, ◌≤◌, Bool, true, false, cond, ◌==◌, List, [], ◌∷◌, length, map, replicate, slice_index, sum_by, count_by, Option, Some, None}
+use Rattle.std.specs.Prelude.{◌≡◌, ℕ, ◌<◌, ◌≤◌, Bool, true, false, cond, ◌==◌, List, [], length, map, replicate, slice_index, sum_by, Option, Some, None}
 use Rattle.std.specs.List.{list_any}
 use mathlib.Core.Option.{some}
 use mathlib.Core.Option as maybe

@@ -1,8 +1,8 @@
-use Rattle.std.proofs.Common.{◌≡◌, ◌≢◌, ℕ, ◌+◌, ◌*◌, ◌/◌, ◌<◌, ◌≤◌, ◌^◌, inl, inr, Bool, true, false, List, [], ◌∷◌, ◌++◌, Option, Some, None, get_or, set, length, map, take, refl, sym, ◌∙◌, ap, subst, arith, get_or-set_same, get_or-set_other}
+use Rattle.std.proofs.Common.{◌≡◌, ℕ, ◌<◌, ◌≤◌, inl, inr, Bool, false, List, [], ◌∷◌, ◌++◌, Option, Some, None, get_or, set, length, map, take, sym, ◌∙◌, ap, subst, arith, get_or-set_same, get_or-set_other}
 use mathlib.Core.List.{map-append}
 use mathlib.Core.Option.{some}
 use lib.ListN.{get_elem?}
-use Rattle.std.specs.Slots.{slots_counts, slots_filled, slots_items, slots_len}
+use Rattle.std.specs.Slots.{slots_counts, slots_filled, slots_items}
 use Rattle.std.proofs.lemmas.Option.{none-some}
 use Rattle.op_cells.specs.declared.cells.Cell.{Cell}
 use Rattle.claim_history.proofs.Kept.{cases_ℕ}

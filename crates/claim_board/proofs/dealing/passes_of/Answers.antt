@@ -1,4 +1,4 @@
-use Rattle.std.proofs.Common.{◌≡◌, ◌+◌, ◌∷◌, [], ◌++◌, ℕ, List, length, length-append, sym, subst, ◌∙◌, ap, arith}
+use Rattle.std.proofs.Common.{◌∷◌, [], List, length, length-append, sym, subst, ◌∙◌, ap, arith}
 use Rattle.claim_board.specs.declared.pass.Pass.{Pass}
 use Rattle.claim_board.specs.Deck.{AreDealt}
 use Rattle.claim_board.specs.Plays.{stays}

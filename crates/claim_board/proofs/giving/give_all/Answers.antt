@@ -1,4 +1,4 @@
-use Rattle.std.proofs.Common.{◌≡◌, ◌<◌, ◌+◌, ℕ, List, [], ◌∷◌, length, length-append, take, map, refl, sym, ◌∙◌, ap, subst, arith}
+use Rattle.std.proofs.Common.{◌≡◌, ◌<◌, ◌+◌, ℕ, List, [], ◌∷◌, length, length-append, take, refl, sym, ◌∙◌, ap, subst, arith}
 use Rattle.qccd_base.specs.declared.names.Res.{Res}
 use Rattle.op_cells.specs.declared.cells.Held.{Held}
 use Rattle.claim_core.specs.Program.{ProgramData}

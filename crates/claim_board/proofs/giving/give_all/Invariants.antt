@@ -1,4 +1,4 @@
-use Rattle.std.proofs.Common.{◌≡◌, ◌≤◌, length}
+use Rattle.std.proofs.Common.{◌≡◌, length}
 use Rattle.std.specs.Prelude.{vec_capacity}
 use Rattle.claim_board.specs.Pass.{HasGiven, Sits}
 use Rattle.claim_board.proofs.giving.give_all.Given as goal

@@ -1,4 +1,4 @@
-use Rattle.std.proofs.Common.{◌≡◌, ℕ, ◌+◌, ◌*◌, ◌<◌, List, ◌∷◌, length, None, Some, sym, subst, ◌∙◌, ap, refl, arith}
+use Rattle.std.proofs.Common.{◌≡◌, ℕ, ◌+◌, ◌*◌, List, ◌∷◌, length, None, Some, sym, subst, ◌∙◌, ap}
 use Rattle.atomic_table.specs.Seated.{TableId}
 use Rattle.atomic_table.specs.Table.{rest}
 use Rattle.op_cells.specs.Numbering.{index_of}
@@ -8,7 +8,7 @@ use Rattle.claim_core.specs.Program.{ProgramData}
 use Rattle.claim_board.specs.declared.view.View.{View}
 use Rattle.claim_board.specs.Plays.{Knows, after_give}
 use Rattle.claim_board.specs.View.{seen_also}
-use Rattle.claim_board.proofs.Claims.{sits-more, word-in}
+use Rattle.claim_board.proofs.Claims.{sits-more}
 use Rattle.claim_board.proofs.Handing.{given-one, may-give, next-slot}
 use Rattle.claim_board.proofs.giving.give_one.Goals as goal
 

@@ -1,10 +1,8 @@
-use Rattle.std.proofs.Common.{◌≡◌, ℕ, ◌+◌, ◌*◌, ◌∷◌, List, Option, Some, sym, subst, ◌∙◌, ap, refl}
+use Rattle.std.proofs.Common.{ℕ, ◌∷◌, List, Option, Some, sym, subst, ◌∙◌, ap}
 use mathlib.Core.Option.{none}
-use Rattle.op_table.specs.Touch.{nth}
-use Rattle.op_cells.specs.Numbering.{index_of}
 use Rattle.op_cells.specs.declared.cells.Cell.{Cell}
 use Rattle.atomic_table.specs.Table.{Allows, step, rest}
-use Rattle.claim_board.specs.Plays.{IsAt, MayGive, gave}
+use Rattle.claim_board.specs.Plays.{gave}
 use Rattle.claim_board.specs.Rule.{Ruled}
 use Rattle.claim_board.proofs.Gives.{give-allows}
 use Rattle.claim_board.proofs.steps.give.Goals as goal

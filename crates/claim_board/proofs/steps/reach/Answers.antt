@@ -1,10 +1,8 @@
-use Rattle.std.proofs.Common.{◌≡◌, ℕ, ◌+◌, ◌*◌, eqb, sym, subst, ◌∙◌, ap, refl}
+use Rattle.std.proofs.Common.{ℕ, ◌+◌, eqb, sym, subst, ◌∙◌, ap}
 use mathlib.Core.Option.{none}
 use prog.Atomic.{either}
-use Rattle.op_table.specs.Touch.{nth}
-use Rattle.op_cells.specs.Numbering.{index_of}
 use Rattle.atomic_table.specs.Table.{Allows, step}
-use Rattle.claim_board.specs.Plays.{IsAt, MayReach, reached}
+use Rattle.claim_board.specs.Plays.{reached}
 use Rattle.claim_board.specs.Rule.{Ruled}
 use Rattle.claim_board.proofs.Begins.{reach-allows}
 use Rattle.claim_board.proofs.steps.reach.Goals as goal

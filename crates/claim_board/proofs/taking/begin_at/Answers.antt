@@ -1,5 +1,4 @@
 use Rattle.std.proofs.Common.{◌≡◌, ◌≢◌, ℕ, ◌+◌, ◌*◌, ◌<◌, List, [], Option, sym, subst, ◌∙◌, ap, refl, arith}
-use Rattle.std.proofs.lemmas.Bool.{false≢true, eq-eqb}
 use Rattle.atomic_table.specs.Seated.{TableId}
 use Rattle.op_cells.specs.Numbering.{index_of}
 use Rattle.op_table.specs.Touch.{nth}

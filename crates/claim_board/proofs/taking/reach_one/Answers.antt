@@ -1,11 +1,11 @@
 use Rattle.atomic_table.specs.Table.{rest}
-use Rattle.std.proofs.Common.{◌≡◌, ℕ, ◌+◌, ◌*◌, ◌<◌, List, ◌∷◌, None, Some, sym, subst, ◌∙◌, ap, refl, arith}
+use Rattle.std.proofs.Common.{◌≡◌, ℕ, ◌*◌, ◌<◌, ◌∷◌, None, Some, sym, subst, ◌∙◌, ap, arith}
 use Rattle.atomic_table.specs.Seated.{TableId}
 use Rattle.op_cells.specs.Numbering.{index_of}
 use Rattle.op_table.specs.Touch.{nth}
 use Rattle.claim_core.specs.Program.{ProgramData}
 use Rattle.claim_board.specs.declared.view.View.{View}
-use Rattle.claim_board.specs.Plays.{Knows, Takes, MayReach, after_reach}
+use Rattle.claim_board.specs.Plays.{Knows, after_reach}
 use Rattle.claim_board.specs.View.{seen_also}
 use Rattle.claim_board.proofs.Claims.{may-reach, sits-more, taken-one, takes-slot, word-in}
 use Rattle.claim_board.proofs.taking.reach_one.Goals as goal

@@ -1,6 +1,5 @@
-use Rattle.std.proofs.Common.{◌≡◌, ◌≤◌, length}
+use Rattle.std.proofs.Common.{◌≡◌, ◌≤◌}
 use Rattle.std.specs.Prelude.{vec_capacity}
-use Rattle.claim_history.specs.Event.{touched}
 use Rattle.claim_board.specs.Pass.{HasTaken, Sits}
 use Rattle.claim_board.proofs.taking.take_all.Given as goal
 

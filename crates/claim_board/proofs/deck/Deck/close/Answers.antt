@@ -1,4 +1,3 @@
-use Rattle.std.proofs.Common.{sym, ◌∙◌}
 use Rattle.std.specs.Slots.{slots_items}
 use Rattle.claim_board.specs.Deck.{program_of}
 use Rattle.claim_board.proofs.TakenApart.{cells-at, closed-of, rests-at, seen-below, slots-full, words-small}

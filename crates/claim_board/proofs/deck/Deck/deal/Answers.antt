@@ -1,4 +1,4 @@
-use Rattle.std.proofs.Common.{◌≡◌, ◌≤◌, ◌<◌, ℕ, List, replicate, refl, sym, subst, ◌∙◌, ap, arith}
+use Rattle.std.proofs.Common.{ℕ, replicate, sym, subst, ◌∙◌, ap, arith}
 use Rattle.claim_core.specs.AllCells.{AtStep}
 use Rattle.claim_core.specs.Legal.{IsLegalProgram}
 use Rattle.claim_core.specs.Program.{ProgramData}
