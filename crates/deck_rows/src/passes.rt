@@ -11,8 +11,8 @@ use qccd_base::NoMemory;
 use std::alloc::Global;
 use std::thread::{Threads, for_each_mut};
 
-/// The most workers of a deck.
-pub const MOST_WORKERS: u64 = 16;
+// The most workers of a deck.
+const MOST_WORKERS: u64 = 16;
 
 /// Claims an operation and, where it is got, does it and hands it back.
 pub fn try_one(deck: &Deck, program: &Program, pass: &mut Pass, k: u32) -> Claimed

@@ -1,6 +1,6 @@
 //! What the rows ask, and their answers.
 
-ghost use Rattle.deck_rows.specs.Ready.{AreReady, IsReady};
+ghost use Rattle.deck_rows.specs.Ready.{IsReady};
 
 use crate::circuits::{generated, in_four_traps, two_gates};
 use crate::passes::{closed, dealt, sweep_all, try_one};

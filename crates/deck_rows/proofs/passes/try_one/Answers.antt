@@ -1,4 +1,4 @@
-use Rattle.std.proofs.Common.{◌≡◌, ◌∙◌, ℕ, List, length, get_or, sym, subst, ap, Some}
+use Rattle.std.proofs.Common.{◌≡◌, ◌∙◌, List, length, get_or, sym, subst, ap, Some}
 use Rattle.std.specs.Prelude.{slice_get}
 use Rattle.std.proofs.lemmas.List.{with_items_is}
 use Rattle.op_cells.specs.declared.cells.Held.{Held}
