@@ -25,10 +25,10 @@ use Rattle.claim_board.specs.declared.view.Key.{Key}
 use Rattle.claim_board.specs.declared.view.View.{View}
 use Rattle.claim_board.specs.Close.{is_past, how_many, one_if, IsAtRest}
 use Rattle.claim_board.specs.View.{turn_in, seen_of}
-use Rattle.claim_board.specs.Rule.{Ident, ident, IsLive, stands, begun_of, all_begun, Ruled}
+use Rattle.claim_board.specs.Rule.{Identity, identity, IsLive, stands, begun_of, all_begun, Ruled}
 use Rattle.claim_board.proofs.Counting.{past-begun}
 use Rattle.claim_board.proofs.Looks.{small-turn, turn-found}
-use Rattle.claim_board.proofs.Moves.{St, board, sound-rule, live-ident}
+use Rattle.claim_board.proofs.Moves.{St, board, sound-rule, live-identity}
 use Rattle.claim_board.proofs.Words.{cases_Option}
 
 -- each number is a resource's
@@ -96,10 +96,10 @@ module _ (key : Key) (s : St) (rule : Ruled key s) (id : ℕ) (v : View) (at : g
   B = board key s rule
 
   -- another pass with a number is none
-  nobody : (j : ℕ) (a : Ident) → IsLive (map ident s.views) j a → j ≡ id
+  nobody : (j : ℕ) (a : Identity) → IsLive (map identity s.views) j a → j ≡ id
   nobody j a h = elim (last.all a.number (rule.numbers.below j a h)) [
-    | inl same ↦ rule.numbers.apart j id a (ident v) h (live-ident s.views id v at last.live) (sym same)
-    | inr ended ↦ absurd (false≢true (sym (rule.numbers.ended j id a (ident v) h (live-ident s.views id v at last.live)) ∙ ended))
+    | inl same ↦ rule.numbers.apart j id a (identity v) h (live-identity s.views id v at last.live) (sym same)
+    | inr ended ↦ absurd (false≢true (sym (rule.numbers.ended j id a (identity v) h (live-identity s.views id v at last.live)) ∙ ended))
   ]
 
   idle : (n : ℕ) → (hand_at B n).op ≡ None
@@ -108,8 +108,8 @@ module _ (key : Key) (s : St) (rule : Ruled key s) (id : ℕ) (v : View) (at : g
     | inr (k, busy) ↦
         let owner = rule.shown.owned n k busy in
         let here = nobody owner.0 owner.1 owner.2 in
-        let same : owner.1 ≡ ident v = some-injective owner.1 (ident v) (sym owner.2.at ∙ ap (get_elem? (map ident s.views)) here ∙ (live-ident s.views id v at last.live).at) in
-        ap (λ (m : ℕ). (hand_at B m).op) (sym owner.3 ∙ ap (λ (z : Ident). z.number) same) ∙ (rule.shown.passes id v at last.live).op ∙ last.empty
+        let same : owner.1 ≡ identity v = some-injective owner.1 (identity v) (sym owner.2.at ∙ ap (get_elem? (map identity s.views)) here ∙ (live-identity s.views id v at last.live).at) in
+        ap (λ (m : ℕ). (hand_at B m).op) (sym owner.3 ∙ ap (λ (z : Identity). z.number) same) ∙ (rule.shown.passes id v at last.live).op ∙ last.empty
   ]
 
   free : (r : Res) → holder_at P B r ≡ None
@@ -121,7 +121,7 @@ module _ (key : Key) (s : St) (rule : Ruled key s) (id : ℕ) (v : View) (at : g
   sum_is : all_begun s.views ≡ v.begun
   sum_is =
       one_sum s.views id v at (λ j u other there. elim (cases_Bool u.live) [
-        | inl alive ↦ absurd (other (nobody j (ident u) (live-ident s.views j u there alive)))
+        | inl alive ↦ absurd (other (nobody j (identity u) (live-identity s.views j u there alive)))
         | inr dead ↦ dead
       ])
       ∙ ap (λ (b : Bool). cond b v.begun 0) last.live

@@ -73,7 +73,7 @@ module _ (key : Key) (s : St) (rule : Ruled key s) (id : ℕ) (u : View) (at : g
           leaves = leaves;
           rises = omega arith;
           word = omega (arith, turn);
-          same = λ i. Rattle.claim_board.specs.Rule.ident (rest i);
+          same = λ i. Rattle.claim_board.specs.Rule.identity (rest i);
           program = same_p;
           workers = ap (λ (z : View). z.workers) rest;
           begun = begins;

@@ -17,7 +17,7 @@ use Rattle.claim_history.specs.Board.{BoardData, opening_board, hand_at}
 use Rattle.claim_history.specs.Event.{touched, begun, fault, moved, IsEvent}
 use Rattle.claim_history.specs.History.{IsHistoryFrom, board_from}
 use Rattle.claim_history.specs.Sound.{Reading, read, Sound, IsSound}
-use Rattle.claim_history.specs.Tests.{Claims}
+use Rattle.claim_history.specs.Coded.{Claims}
 use Rattle.claim_history.proofs.Events.{event-sound, opening-sound, slot_opening}
 use Rattle.claim_history.proofs.Kept.{Moved, Begins, Reaches, Gives, first_among, cases_ℕ}
 use Rattle.claim_history.proofs.Turns.{nth_same}

@@ -15,8 +15,8 @@ use Rattle.claim_history.proofs.Kept.{cases_ℕ}
 use Rattle.claim_board.specs.declared.view.Key.{Key}
 use Rattle.claim_board.specs.declared.view.View.{View}
 use Rattle.claim_board.specs.Plays.{stays, comes}
-use Rattle.claim_board.specs.Rule.{Shows, Ident, ident, IsLive, Numbers, stands, begun_of, Ruled}
-use Rattle.claim_board.proofs.Moves.{board, live-ident, sum-set}
+use Rattle.claim_board.specs.Rule.{ShowsHand, Identity, identity, IsLive, Numbers, stands, begun_of, Ruled}
+use Rattle.claim_board.proofs.Moves.{board, live-identity, sum-set}
 use Rattle.claim_board.proofs.Words.{cases_Option}
 
 -- the last entry of a longer list, with its place
@@ -35,33 +35,33 @@ there-below (x ∷ xs) zero a e = omega arith
 there-below (x ∷ xs) (suc i) a e = omega (arith, there-below xs i a e)
 
 -- where a pass of the longer list comes from: it was live before with the same number, or it is the new one
-pub record Before (passes : List Ident) (made i : ℕ) (a : Ident) : Type 0 where
-  pub was : Ident
+pub record Before (passes : List Identity) (made i : ℕ) (a : Identity) : Type 0 where
+  pub was : Identity
   pub live : IsLive passes i was
   pub number : a.number ≡ was.number
   pub ended : a.ended ≡ was.ended
   pub gave_out : a.number ≡ 0 → a.made ≡ made + 1
 
-pub record New (passes : List Ident) (made i : ℕ) (a : Ident) : Type 0 where
+pub record New (passes : List Identity) (made i : ℕ) (a : Identity) : Type 0 where
   pub at : i ≡ length passes
   pub number : a.number ≡ made
   pub ended : a.ended ≡ []
 
-module _ (workers : ℕ) (passes : List Ident) (id : ℕ) (v x y : Ident) (numbers : Numbers workers passes) (here : IsLive passes id v) (first : v.number ≡ 0) (more : v.made < workers)
+module _ (workers : ℕ) (passes : List Identity) (id : ℕ) (v x y : Identity) (numbers : Numbers workers passes) (here : IsLive passes id v) (first : v.number ≡ 0) (more : v.made < workers)
     (x_number : x.number ≡ v.number) (x_ended : x.ended ≡ v.ended) (x_made : x.made ≡ v.made + 1) (y_number : y.number ≡ v.made) (y_ended : y.ended ≡ []) where
-  abbrev L : List Ident
+  abbrev L : List Identity
   L = set passes id x ++ y ∷ []
 
-  came : (i : ℕ) (a : Ident) → IsLive L i a → Before passes v.made i a ⊎ New passes v.made i a
+  came : (i : ℕ) (a : Identity) → IsLive L i a → Before passes v.made i a ⊎ New passes v.made i a
   came i a h = elim (at-end (set passes id x) y a i h.at) [
-    | inr new ↦ inr (record { at = new.0 ∙ length-set passes id x; number = sym (ap (λ (z : Ident). z.number) new.1) ∙ y_number; ended = sym (ap (λ (z : Ident). z.ended) new.1) ∙ y_ended })
+    | inr new ↦ inr (record { at = new.0 ∙ length-set passes id x; number = sym (ap (λ (z : Identity). z.number) new.1) ∙ y_number; ended = sym (ap (λ (z : Identity). z.ended) new.1) ∙ y_ended })
     | inl old ↦ elim (at_set passes id i x a old) [
       | inl (is, x_is) ↦ inl (record {
         was = v;
         live = subst (λ (j : ℕ). IsLive passes j v) (sym is) here;
-        number = sym (ap (λ (z : Ident). z.number) x_is) ∙ x_number;
-        ended = sym (ap (λ (z : Ident). z.ended) x_is) ∙ x_ended;
-        gave_out = λ _. sym (ap (λ (z : Ident). z.made) x_is) ∙ x_made;
+        number = sym (ap (λ (z : Identity). z.number) x_is) ∙ x_number;
+        ended = sym (ap (λ (z : Identity). z.ended) x_is) ∙ x_ended;
+        gave_out = λ _. sym (ap (λ (z : Identity). z.made) x_is) ∙ x_made;
       })
       | inr (other, there) ↦ inl (record {
         was = a;
@@ -73,7 +73,7 @@ module _ (workers : ℕ) (passes : List Ident) (id : ℕ) (v x y : Ident) (numbe
     ]
   ]
 
-  made_above : (i : ℕ) (a : Ident) → IsLive passes i a → a.number < v.made
+  made_above : (i : ℕ) (a : Identity) → IsLive passes i a → a.number < v.made
   made_above i a h = numbers.made id i v a here first h
 
   none_ended : (n : ℕ) (ns : List ℕ) → ns ≡ [] → stands n ns ≡ true → ⊥
@@ -126,11 +126,11 @@ module _ (workers : ℕ) (passes : List Ident) (id : ℕ) (v x y : Ident) (numbe
   }
 
   -- who was live is
-  pub still-live : (i : ℕ) (a : Ident) → IsLive passes i a → x.live ≡ true → (j : ℕ) × (b : Ident) × IsLive L j b × (b.number ≡ a.number)
+  pub still-live : (i : ℕ) (a : Identity) → IsLive passes i a → x.live ≡ true → (j : ℕ) × (b : Identity) × IsLive L j b × (b.number ≡ a.number)
   still-live i a h alive = elim (cases_ℕ i id) [
     | inl is ↦
         let a_is : a ≡ v = some-injective a v (sym h.at ∙ ap (get_elem? passes) is ∙ here.at) in
-        (id, x, record { at = Rattle.atomic_table.proofs.Lists.at_longer (set passes id x) (y ∷ []) id x (set_here passes id x (there-below passes id v here.at)); live = alive }, x_number ∙ sym (ap (λ (z : Ident). z.number) a_is))
+        (id, x, record { at = Rattle.atomic_table.proofs.Lists.at_longer (set passes id x) (y ∷ []) id x (set_here passes id x (there-below passes id v here.at)); live = alive }, x_number ∙ sym (ap (λ (z : Identity). z.number) a_is))
     | inr other ↦ (i, a, record { at = Rattle.atomic_table.proofs.Lists.at_longer (set passes id x) (y ∷ []) i a (set_else passes id i x other ∙ h.at); live = h.live }, refl)
   ]
 
@@ -143,17 +143,17 @@ pub cut-splits : (key : Key) (id : ℕ) (v : View) → v.live ≡ true → v.num
 cut-splits key id v live first more s rule at =
     let b : BoardData = board key s rule in
     let old = rule.shown.passes id v at live in
-    let here : IsLive (map ident s.views) id (ident v) = live-ident s.views id v at live in
+    let here : IsLive (map identity s.views) id (identity v) = live-identity s.views id v at live in
     let views : List View = set s.views id (stays v) ++ comes v ∷ [] in
     let room : v.made < key.workers = omega (arith, old.workers, more) in
-    let idents : map ident views ≡ set (map ident s.views) id (ident (stays v)) ++ ident (comes v) ∷ [] =
-    map-append ident (set s.views id (stays v)) (comes v ∷ []) ∙ ap (λ (is : List Ident). is ++ ident (comes v) ∷ []) (map-set ident s.views id (stays v)) in
-    let stay : Shows key b (stays v) = record { program = old.program; workers = old.workers; op = old.op; hand = old.hand; long = old.long; seen = old.seen } in
+    let identities : map identity views ≡ set (map identity s.views) id (identity (stays v)) ++ identity (comes v) ∷ [] =
+    map-append identity (set s.views id (stays v)) (comes v ∷ []) ∙ ap (λ (is : List Identity). is ++ identity (comes v) ∷ []) (map-set identity s.views id (stays v)) in
+    let stay : ShowsHand key b (stays v) = record { program = old.program; workers = old.workers; op = old.op; hand = old.hand; long = old.long; seen = old.seen } in
     let unborn : (hand_at b v.made).op ≡ None = elim (cases_Option (hand_at b v.made).op) [
       | inl h ↦ h
-      | inr (k, h) ↦ let owner = rule.shown.owned v.made k h in absurd (omega (arith, rule.numbers.made id owner.0 (ident v) owner.1 here first owner.2, owner.3))
+      | inr (k, h) ↦ let owner = rule.shown.owned v.made k h in absurd (omega (arith, rule.numbers.made id owner.0 (identity v) owner.1 here first owner.2, owner.3))
     ] in
-    let come : Shows key b (comes v) = record {
+    let come : ShowsHand key b (comes v) = record {
       program = old.program;
       workers = old.workers;
       op = unborn;
@@ -172,17 +172,17 @@ cut-splits key id v live first more s rule at =
         words = rule.shown.words;
         homes = rule.shown.homes;
         passes = λ j u there alive. elim (at-end (set s.views id (stays v)) (comes v) u j there) [
-          | inr new ↦ subst (Shows key b) new.1 come
+          | inr new ↦ subst (ShowsHand key b) new.1 come
           | inl old ↦ elim (at_set s.views id j (stays v) u old) [
-            | inl (is, x_is) ↦ subst (Shows key b) x_is stay
+            | inl (is, x_is) ↦ subst (ShowsHand key b) x_is stay
             | inr (other, was) ↦ rule.shown.passes j u was alive
           ]
         ];
         owned = λ n k busy.
             let owner = rule.shown.owned n k busy in
-            let now = still-live key.workers (map ident s.views) id (ident v) (ident (stays v)) (ident (comes v)) rule.numbers here first room refl refl refl refl refl owner.0 owner.1 owner.2 live in
-            (now.0, now.1, subst (λ (is : List Ident). IsLive is now.0 now.1) (sym idents) now.2, now.3 ∙ owner.3);
+            let now = still-live key.workers (map identity s.views) id (identity v) (identity (stays v)) (identity (comes v)) rule.numbers here first room refl refl refl refl refl owner.0 owner.1 owner.2 live in
+            (now.0, now.1, subst (λ (is : List Identity). IsLive is now.0 now.1) (sym identities) now.2, now.3 ∙ owner.3);
       };
-      numbers = subst (λ (is : List Ident). Numbers key.workers is) (sym idents) (numbers-cut key.workers (map ident s.views) id (ident v) (ident (stays v)) (ident (comes v)) rule.numbers here first room refl refl refl refl refl);
+      numbers = subst (λ (is : List Identity). Numbers key.workers is) (sym identities) (numbers-cut key.workers (map identity s.views) id (identity v) (identity (stays v)) (identity (comes v)) rule.numbers here first room refl refl refl refl refl);
       counted = omega (arith, rule.counted, sum_by_push begun_of (set s.views id (stays v)) (comes v), sum-set begun_of s.views id v (stays v) at);
     }

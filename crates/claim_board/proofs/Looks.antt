@@ -19,13 +19,13 @@ use Rattle.claim_board.specs.declared.view.Key.{Key}
 use Rattle.claim_board.specs.declared.view.View.{View}
 use Rattle.claim_board.specs.Plays.{Knows, after_look, looked}
 use Rattle.claim_board.specs.View.{turn_in, hand_of, seen_of, seen_also}
-use Rattle.claim_board.specs.Rule.{Shows, Ident, ident, IsLive, Numbers, begun_of, Ruled}
+use Rattle.claim_board.specs.Rule.{ShowsHand, Identity, identity, IsLive, Numbers, begun_of, Ruled}
 use Rattle.claim_board.proofs.Moves.{St, board, sound-rule, small-mark, same-map, sum-set}
 use Rattle.claim_board.proofs.Words.{turn-word}
 
 -- a pass that differs in what it has seen alone, and in what it looked at
 pub record Watches (key : Key) (b : BoardData) (v w : View) : Type 0 where
-  pub same : ident w ≡ ident v
+  pub same : identity w ≡ identity v
   pub program : w.program ≡ v.program
   pub workers : w.workers ≡ v.workers
   pub op : w.op ≡ v.op
@@ -36,12 +36,12 @@ pub record Watches (key : Key) (b : BoardData) (v w : View) : Type 0 where
 
 pub watches : (key : Key) (s : St) (rule : Ruled key s) (id : ℕ) (v w : View) → get_elem? s.views id ≡ some v → v.live ≡ true → Watches key (board key s rule) v w → Ruled key (record { words = s.words; homes = s.homes; views = set s.views id w })
 watches key s rule id v w at live t =
-    let idents : map ident (set s.views id w) ≡ map ident s.views = same-map ident s.views id v w at t.same in
+    let identities : map identity (set s.views id w) ≡ map identity s.views = same-map identity s.views id v w at t.same in
     let b : BoardData = board key s rule in
-    let number : w.number ≡ v.number = ap (λ (a : Ident). a.number) t.same in
+    let number : w.number ≡ v.number = ap (λ (a : Identity). a.number) t.same in
     let begun : begun_of w ≡ begun_of v = (λ i. cond (t.same i).live (t.begun i) 0) in
     let old = rule.shown.passes id v at live in
-    let mine : Shows key b w = record {
+    let mine : ShowsHand key b w = record {
       program = t.program ∙ old.program;
       workers = t.workers ∙ old.workers;
       op = ap (λ (n : ℕ). (Rattle.claim_history.specs.Board.hand_at b n).op) number ∙ old.op ∙ sym t.op;
@@ -59,11 +59,11 @@ watches key s rule id v w at live t =
       shown = record {
         words = rule.shown.words;
         homes = rule.shown.homes;
-        passes = λ j u there alive. ⊎_elim (λ (t : (j ≡ id) × (w ≡ u)). subst (Shows key b) t.1 mine)
+        passes = λ j u there alive. ⊎_elim (λ (t : (j ≡ id) × (w ≡ u)). subst (ShowsHand key b) t.1 mine)
             (λ (t : (j ≢ id) × (get_elem? s.views j ≡ some u)). rule.shown.passes j u t.1 alive) (at_set s.views id j w u there);
-        owned = subst (λ (is : List Ident). (n k : ℕ) → (Rattle.claim_history.specs.Board.hand_at b n).op ≡ Some k → (j : ℕ) × (a : Ident) × IsLive is j a × (a.number ≡ n)) (sym idents) rule.shown.owned;
+        owned = subst (λ (is : List Identity). (n k : ℕ) → (Rattle.claim_history.specs.Board.hand_at b n).op ≡ Some k → (j : ℕ) × (a : Identity) × IsLive is j a × (a.number ≡ n)) (sym identities) rule.shown.owned;
       };
-      numbers = subst (λ (is : List Ident). Numbers key.workers is) (sym idents) rule.numbers;
+      numbers = subst (λ (is : List Identity). Numbers key.workers is) (sym identities) rule.numbers;
       counted = omega (arith, rule.counted, sum-set begun_of s.views id v w at, begun);
     }
 

@@ -27,7 +27,7 @@ use Rattle.claim_history.proofs.Written.{at_other, slot_own, hand_own, hand_othe
 use Rattle.claim_board.specs.declared.view.Key.{Key}
 use Rattle.claim_board.specs.declared.view.View.{View}
 use Rattle.claim_board.specs.View.{word_of, mark_of, hand_of, seen_of}
-use Rattle.claim_board.specs.Rule.{Shows, Ident, ident, IsLive, Numbers, begun_of, all_begun, begin_of, begins_in, IsHome, Shown, Ruled}
+use Rattle.claim_board.specs.Rule.{ShowsHand, Identity, identity, IsLive, Numbers, begun_of, all_begun, begin_of, begins_in, IsHome, Shown, Ruled}
 use Rattle.claim_board.proofs.Boards.{sound-of, hands-of, board-more}
 use Rattle.claim_board.proofs.Words.{cases_Option}
 
@@ -47,11 +47,11 @@ pub sound-rule : (key : Key) (s : St) (rule : Ruled key s) → IsSound key.progr
 sound-rule key s rule = sound-of key.program.value key.workers rule.events rule.legal rule.history
 
 -- a live view's number is there
-pub live-ident : (vs : List View) (j : ℕ) (v : View) → get_elem? vs j ≡ some v → v.live ≡ true → IsLive (map ident vs) j (ident v)
-live-ident vs j v at live = record { at = at_map ident vs j v at; live = live }
+pub live-identity : (vs : List View) (j : ℕ) (v : View) → get_elem? vs j ≡ some v → v.live ≡ true → IsLive (map identity vs) j (identity v)
+live-identity vs j v at live = record { at = at_map identity vs j v at; live = live }
 
 pub number-below : (key : Key) (s : St) (rule : Ruled key s) (j : ℕ) (v : View) → get_elem? s.views j ≡ some v → v.live ≡ true → v.number < key.workers
-number-below key s rule j v at live = rule.numbers.below j (ident v) (live-ident s.views j v at live)
+number-below key s rule j v at live = rule.numbers.below j (identity v) (live-identity s.views j v at live)
 
 -- who holds a resource is a worker
 pub small-mark : (key : Key) (s : St) (rule : Ruled key s) (r : Res) → mark_of (holder_at key.program.value (board key s rule) r) < 32
@@ -86,7 +86,7 @@ pub record Turns (key : Key) (b : BoardData) (e : Event) (v w : View) (q : Res) 
   pub leaves : moved key.program.value b e ≡ with_both key.program.value b q x v.number (hand_of w)
   pub rises : turn_at key.program.value b q ≤ x.turn
   pub word : n ≡ word_of x
-  pub same : ident w ≡ ident v
+  pub same : identity w ≡ identity v
   pub program : w.program ≡ v.program
   pub workers : w.workers ≡ v.workers
   pub begun : w.begun ≡ v.begun + begin_of e
@@ -125,8 +125,8 @@ module _ (key : Key) (s : St) (rule : Ruled key s) (id : ℕ) (v w : View) (e : 
     | inr apart ↦ omega (arith, ap (λ (z : Slot). z.turn) (slot_else r apart))
   ]
 
-  idents_stay : map ident (set s.views id w) ≡ map ident s.views
-  idents_stay = same-map ident s.views id v w at t.same
+  idents_stay : map identity (set s.views id w) ≡ map identity s.views
+  idents_stay = same-map identity s.views id v w at t.same
 
   below : v.number < length B.hands
   below = omega (arith, number-below key s rule id v at live, hands-of key.program.value key.workers rule.events)
@@ -135,7 +135,7 @@ module _ (key : Key) (s : St) (rule : Ruled key s) (id : ℕ) (v w : View) (e : 
   hand_here = hand_own P B q x v.number (hand_of w) below
 
   number_stays : w.number ≡ v.number
-  number_stays = ap (λ (a : Ident). a.number) t.same
+  number_stays = ap (λ (a : Identity). a.number) t.same
 
   words_after : (r : Res) → is_there P r ≡ true → get_or (set s.words (index_of P.machine q) n) (index_of P.machine r) 0 ≡ word_of (slot_at P C r)
   words_after r there = elim (cases_Bool (same_res q r)) [
@@ -156,7 +156,7 @@ module _ (key : Key) (s : St) (rule : Ruled key s) (id : ℕ) (v w : View) (e : 
         record { cell = old.cell; home = t.others (index_of P.machine r) (index_else r there apart) ∙ old.home; is = subst (λ (k : ℕ). IsCell P r k old.cell) (ap (λ (z : Slot). z.turn) (sym (slot_else r apart))) old.is }
   ]
 
-  mine_after : Shows key C w
+  mine_after : ShowsHand key C w
   mine_after =
       let old = rule.shown.passes id v at live in
       let hand : hand_at C w.number ≡ hand_of w = ap (hand_at C) number_stays ∙ hand_here in
@@ -172,10 +172,10 @@ module _ (key : Key) (s : St) (rule : Ruled key s) (id : ℕ) (v w : View) (e : 
         ];
       }
 
-  others_after : (j : ℕ) (u : View) → j ≢ id → get_elem? s.views j ≡ some u → u.live ≡ true → Shows key C u
+  others_after : (j : ℕ) (u : View) → j ≢ id → get_elem? s.views j ≡ some u → u.live ≡ true → ShowsHand key C u
   others_after j u other there alive =
       let old = rule.shown.passes j u there alive in
-      let apart : u.number ≢ v.number = λ same. other (rule.numbers.apart j id (ident u) (ident v) (live-ident s.views j u there alive) (live-ident s.views id v at live) same) in
+      let apart : u.number ≢ v.number = λ same. other (rule.numbers.apart j id (identity u) (identity v) (live-identity s.views j u there alive) (live-identity s.views id v at live) same) in
       let hand : hand_at C u.number ≡ hand_at B u.number = hand_other P B q x v.number (hand_of w) u.number apart in
       record {
         program = old.program;
@@ -186,26 +186,26 @@ module _ (key : Key) (s : St) (rule : Ruled key s) (id : ℕ) (v w : View) (e : 
         seen = λ r y. omega (arith, old.seen r y, turns_rise r);
       }
 
-  owners_after : (m k : ℕ) → (hand_at C m).op ≡ Some k → (j : ℕ) × (a : Ident) × IsLive (map ident (set s.views id w)) j a × (a.number ≡ m)
+  owners_after : (m k : ℕ) → (hand_at C m).op ≡ Some k → (j : ℕ) × (a : Identity) × IsLive (map identity (set s.views id w)) j a × (a.number ≡ m)
   owners_after m k busy = elim (cases_ℕ m v.number) [
-    | inl is ↦ (id, ident v, subst (λ (is : List Ident). IsLive is id (ident v)) (sym idents_stay) (live-ident s.views id v at live), sym is)
+    | inl is ↦ (id, identity v, subst (λ (is : List Identity). IsLive is id (identity v)) (sym idents_stay) (live-identity s.views id v at live), sym is)
     | inr other ↦
         let old = rule.shown.owned m k (sym (ap (λ (h : HandData). h.op) (hand_other P B q x v.number (hand_of w) m other)) ∙ busy) in
-        (old.0, old.1, subst (λ (is : List Ident). IsLive is old.0 old.1) (sym idents_stay) old.2, old.3)
+        (old.0, old.1, subst (λ (is : List Identity). IsLive is old.0 old.1) (sym idents_stay) old.2, old.3)
   ]
 
   shown_after : Shown key C S
   shown_after = record {
     words = words_after;
     homes = homes_after;
-    passes = λ j u there alive. ⊎_elim (λ (t : (j ≡ id) × (w ≡ u)). subst (Shows key C) t.1 mine_after)
+    passes = λ j u there alive. ⊎_elim (λ (t : (j ≡ id) × (w ≡ u)). subst (ShowsHand key C) t.1 mine_after)
         (λ (t : (j ≢ id) × (get_elem? s.views j ≡ some u)). others_after j u t.0 t.1 alive) (at_set s.views id j w u there);
     owned = owners_after;
   }
 
   begun_after : begins_in (rule.events ++ e ∷ []) ≡ all_begun (set s.views id w)
   begun_after =
-      let live_w : w.live ≡ true = ap (λ (a : Ident). a.live) t.same ∙ live in
+      let live_w : w.live ≡ true = ap (λ (a : Identity). a.live) t.same ∙ live in
       let of_w : begun_of w ≡ w.begun = ap (λ (z : Bool). cond z w.begun 0) live_w in
       let of_v : begun_of v ≡ v.begun = ap (λ (z : Bool). cond z v.begun 0) live in
       omega (arith, Rattle.std.proofs.lemmas.List.Sums.sum_by_push begin_of rule.events e, rule.counted, sum-set begun_of s.views id v w at, t.begun, of_w, of_v)
@@ -221,6 +221,6 @@ module _ (key : Key) (s : St) (rule : Ruled key s) (id : ℕ) (v w : View) (e : 
         events = rule.events ++ e ∷ [];
         history = history-more P (opening_board P key.workers) rule.events e rule.history t.allowed;
         shown = subst (λ (b : BoardData). Shown key b S) (sym now) shown_after;
-        numbers = subst (λ (is : List Ident). Numbers key.workers is) (sym idents_stay) rule.numbers;
+        numbers = subst (λ (is : List Identity). Numbers key.workers is) (sym idents_stay) rule.numbers;
         counted = begun_after;
       }

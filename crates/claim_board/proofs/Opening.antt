@@ -23,7 +23,7 @@ use Rattle.claim_history.proofs.Events.{slot_opening, hand_opening}
 use Rattle.claim_board.proofs.Handing.{map-long}
 use Rattle.claim_board.specs.declared.view.Key.{Key}
 use Rattle.claim_board.specs.View.{word_of}
-use Rattle.claim_board.specs.Rule.{Shows, Ident, ident, IsLive, Numbers, stands, begun_of, Ruled, first_view}
+use Rattle.claim_board.specs.Rule.{ShowsHand, Identity, identity, IsLive, Numbers, stands, begun_of, Ruled, first_view}
 
 -- a resource whose test passes is there
 pub there-true : (p : ProgramData) (r : Res) → is_there p r ≡ true → IsThere p.machine p.bits r
@@ -54,26 +54,26 @@ module _ (key : Key) where
   abbrev B : BoardData
   B = opening_board P key.workers
 
-  abbrev First : List Ident
-  First = ident (first_view key) ∷ []
+  abbrev First : List Identity
+  First = identity (first_view key) ∷ []
 
-  alone : (i : ℕ) (a : Ident) → IsLive First i a → (i ≡ 0) × (ident (first_view key) ≡ a)
-  alone i a h = only (ident (first_view key)) a i h.at
+  alone : (i : ℕ) (a : Identity) → IsLive First i a → (i ≡ 0) × (identity (first_view key) ≡ a)
+  alone i a h = only (identity (first_view key)) a i h.at
 
-  none_stands : (n i : ℕ) (a : Ident) → IsLive First i a → stands n a.ended ≡ true → ⊥
-  none_stands n i a h hit = false≢true (ap (λ (z : Ident). stands n z.ended) (alone i a h).1 ∙ hit)
+  none_stands : (n i : ℕ) (a : Identity) → IsLive First i a → stands n a.ended ≡ true → ⊥
+  none_stands n i a h hit = false≢true (ap (λ (z : Identity). stands n z.ended) (alone i a h).1 ∙ hit)
 
   first_numbers : 0 < key.workers → Numbers key.workers First
   first_numbers more = record {
-    below = λ i a h. omega (arith, more, ap (λ (z : Ident). z.number) (alone i a h).1);
+    below = λ i a h. omega (arith, more, ap (λ (z : Identity). z.number) (alone i a h).1);
     apart = λ i j a b h k same. (alone i a h).0 ∙ sym (alone j b k).0;
     ended = λ i j a b h k. Rattle.std.proofs.lemmas.Bool.false_from_ne_true (stands a.number b.ended) (λ hit. none_stands a.number j b k hit);
     once = λ i j n a b h k one two. absurd (none_stands n i a h one);
-    made = λ i j a b h none k. omega (arith, ap (λ (z : Ident). z.number) (alone j b k).1, ap (λ (z : Ident). z.made) (alone i a h).1);
+    made = λ i j a b h none k. omega (arith, ap (λ (z : Identity). z.number) (alone j b k).1, ap (λ (z : Identity). z.made) (alone i a h).1);
     made_ended = λ i j n a b h none k hit. absurd (none_stands n j b k hit);
   }
 
-  first_shows : Shows key B (first_view key)
+  first_shows : ShowsHand key B (first_view key)
   first_shows = record {
     program = refl;
     workers = refl;
@@ -100,7 +100,7 @@ module _ (key : Key) where
             home = at_map some slots (index_of P.machine r) (Some c.0) (subst (λ (xs : List (Option Cell)). get_elem? xs (index_of P.machine r) ≡ some (Some c.0)) (sym s_is) (at_map Some cells (index_of P.machine r) c.0 (elem-get cells (index_of P.machine r) c.0 c.1)));
             is = subst (λ (n : ℕ). IsCell P r n c.0) (ap (λ (z : Slot). z.turn) (sym (slot_opening P key.workers r))) c.2;
           };
-      passes = λ j v found live. subst (Shows key B) (only (first_view key) v j found).1 first_shows;
+      passes = λ j v found live. subst (ShowsHand key B) (only (first_view key) v j found).1 first_shows;
       owned = λ n k busy. absurd (none-some k (sym (hand_opening P key.workers n) ∙ busy));
     };
     numbers = first_numbers more;

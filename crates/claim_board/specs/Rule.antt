@@ -21,7 +21,7 @@ use Rattle.claim_board.specs.View.{word_of, hand_of, seen_of}
 
 -- a live pass shows its part of the board: the program and the number of workers are the deck's, its hand is
 -- that of the worker with its number, and it has seen no turn of a resource that is not reached
-pub record Shows (key : Key) (b : BoardData) (v : View) : Type 0 where
+pub record ShowsHand (key : Key) (b : BoardData) (v : View) : Type 0 where
   pub program : v.program ≡ key.program.value
   pub workers : v.workers ≡ key.workers
   pub op : (hand_at b v.number).op ≡ v.op
@@ -30,17 +30,17 @@ pub record Shows (key : Key) (b : BoardData) (v : View) : Type 0 where
   pub seen : (r : Res) → is_there key.program.value r ≡ true → seen_of v r ≤ turn_at key.program.value b r
 
 -- of a pass: whether it is live, its number, how many numbers it gave out, and those that ended in it
-pub record Ident : Type 0 where
+pub record Identity : Type 0 where
   pub live : Bool
   pub number : ℕ
   pub made : ℕ
   pub ended : List ℕ
 
-abbrev pub ident : View → Ident
-ident v = record { live = v.live; number = v.number; made = v.made; ended = v.ended }
+abbrev pub identity : View → Identity
+identity v = record { live = v.live; number = v.number; made = v.made; ended = v.ended }
 
 -- the pass at that place is live
-pub record IsLive (passes : List Ident) (j : ℕ) (a : Ident) : Type 0 where
+pub record IsLive (passes : List Identity) (j : ℕ) (a : Identity) : Type 0 where
   pub at : get_elem? passes j ≡ some a
   pub live : a.live ≡ true
 
@@ -51,13 +51,13 @@ stands n ns = list_any (λ m. m == n) ns
 -- Live passes have different numbers, each below the number of workers. No live pass's number stands in an
 -- `ended`, and no number stands in the `ended` of two live passes. While pass 0 is live, its `made` is above
 -- every number that is live or ended
-pub record Numbers (workers : ℕ) (passes : List Ident) : Type 0 where
-  pub below : (i : ℕ) (a : Ident) → IsLive passes i a → a.number < workers
-  pub apart : (i j : ℕ) (a b : Ident) → IsLive passes i a → IsLive passes j b → a.number ≡ b.number → i ≡ j
-  pub ended : (i j : ℕ) (a b : Ident) → IsLive passes i a → IsLive passes j b → stands a.number b.ended ≡ false
-  pub once : (i j n : ℕ) (a b : Ident) → IsLive passes i a → IsLive passes j b → stands n a.ended ≡ true → stands n b.ended ≡ true → i ≡ j
-  pub made : (i j : ℕ) (a b : Ident) → IsLive passes i a → a.number ≡ 0 → IsLive passes j b → b.number < a.made
-  pub made_ended : (i j n : ℕ) (a b : Ident) → IsLive passes i a → a.number ≡ 0 → IsLive passes j b → stands n b.ended ≡ true → n < a.made
+pub record Numbers (workers : ℕ) (passes : List Identity) : Type 0 where
+  pub below : (i : ℕ) (a : Identity) → IsLive passes i a → a.number < workers
+  pub apart : (i j : ℕ) (a b : Identity) → IsLive passes i a → IsLive passes j b → a.number ≡ b.number → i ≡ j
+  pub ended : (i j : ℕ) (a b : Identity) → IsLive passes i a → IsLive passes j b → stands a.number b.ended ≡ false
+  pub once : (i j n : ℕ) (a b : Identity) → IsLive passes i a → IsLive passes j b → stands n a.ended ≡ true → stands n b.ended ≡ true → i ≡ j
+  pub made : (i j : ℕ) (a b : Identity) → IsLive passes i a → a.number ≡ 0 → IsLive passes j b → b.number < a.made
+  pub made_ended : (i j n : ℕ) (a b : Identity) → IsLive passes i a → a.number ≡ 0 → IsLive passes j b → stands n b.ended ≡ true → n < a.made
 
 -- how many operations a live pass began, and how many all of them
 abbrev pub begun_of : View → ℕ
@@ -87,8 +87,8 @@ pub record IsHome (p : ProgramData) (homes : List (maybe.Option (Option Cell))) 
 pub record Shown (key : Key) (b : BoardData) (s : State (Option Cell) View) : Type 0 where
   pub words : (r : Res) → is_there key.program.value r ≡ true → slice_index s.words (index_of key.program.value.machine r) ≡ word_of (slot_at key.program.value b r)
   pub homes : (r : Res) → is_there key.program.value r ≡ true → holder_at key.program.value b r ≡ None → IsHome key.program.value s.homes r (turn_at key.program.value b r)
-  pub passes : (j : ℕ) (v : View) → get_elem? s.views j ≡ some v → v.live ≡ true → Shows key b v
-  pub owned : (n k : ℕ) → (hand_at b n).op ≡ Some k → (j : ℕ) × (a : Ident) × IsLive (map ident s.views) j a × (a.number ≡ n)
+  pub passes : (j : ℕ) (v : View) → get_elem? s.views j ≡ some v → v.live ≡ true → ShowsHand key b v
+  pub owned : (n k : ℕ) → (hand_at b n).op ≡ Some k → (j : ℕ) × (a : Identity) × IsLive (map identity s.views) j a × (a.number ≡ n)
 
 -- A history of the program leads to the board that is shown. Numbers are as said above, and the live passes
 -- began as many operations as there are Begins in the history
@@ -100,7 +100,7 @@ pub record Ruled (key : Key) (s : State (Option Cell) View) : Type 0 where
   pub events : List Event
   pub history : IsHistory key.program.value key.workers events
   pub shown : Shown key (board_of key.program.value key.workers events) s
-  pub numbers : Numbers key.workers (map ident s.views)
+  pub numbers : Numbers key.workers (map identity s.views)
   pub counted : begins_in events ≡ all_begun s.views
 
 -- a pass that has done nothing

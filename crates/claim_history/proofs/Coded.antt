@@ -24,7 +24,7 @@ use Rattle.claim_history.specs.Board.{BoardData, is_there, width, slot_at, flag_
 use Rattle.claim_history.specs.Event.{touched, is_op, begun, fault, moved, IsEvent, Allowed}
 use Rattle.claim_history.specs.History.{IsBoardOf, board_of, board_from}
 use Rattle.claim_history.specs.Sound.{IsWide}
-use Rattle.claim_history.specs.Tests.{Claims, Suits, is_finished, is_enabled}
+use Rattle.claim_history.specs.Coded.{Claims, Suits, is_finished, is_enabled}
 use Rattle.claim_history.specs.Enabled.{AllFinished, IsEnabled, IsLeastUnfinished}
 use Rattle.claim_history.proofs.Testing.{finished-from, finished-true, enabled-from, enabled-true}
 use Rattle.claim_history.proofs.Ends.{board-sound}

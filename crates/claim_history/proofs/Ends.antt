@@ -18,7 +18,7 @@ use Rattle.claim_history.specs.Board.{HandData, BoardData, turn_at, holder_at, h
 use Rattle.claim_history.specs.Event.{touched}
 use Rattle.claim_history.specs.Sound.{Reading, HandFits, read, Sound, IsSound, Unbegun, Finished}
 use Rattle.claim_history.specs.Enabled.{IsEnabled, IsReady, IsLeastUnfinished, AllFinished}
-use Rattle.claim_history.specs.Tests.{Claims}
+use Rattle.claim_history.specs.Coded.{Claims}
 use Rattle.claim_history.specs.History.{IsHistory, board_of, commits, moment, ops_of, IsBoardOf}
 use Rattle.claim_history.proofs.Turns.{Turn, turn_found, nth_same, nth_all}
 use Rattle.claim_history.proofs.Events.{history-sound, opening-sound, slot_opening}

@@ -12,7 +12,7 @@ use Rattle.claim_history.specs.Board.{HandData, BoardData, is_there, width, free
 use Rattle.op_cells.specs.Numbering.{index_of}
 use Rattle.claim_history.specs.Event.{touched, begun, fault, moved, IsEvent, Allowed}
 use Rattle.claim_history.specs.Sound.{IsSound}
-use Rattle.claim_history.specs.Tests.{Claims}
+use Rattle.claim_history.specs.Coded.{Claims}
 use Rattle.claim_history.specs.History.{IsHistoryFrom, board_from}
 use Rattle.claim_history.proofs.Kept.{sound-moved, begin-fair, reach-fair, give-fair}
 use Rattle.claim_history.proofs.Written.{begins, reaches, gives, moved-both}

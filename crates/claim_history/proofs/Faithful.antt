@@ -16,7 +16,7 @@ use Rattle.claim_history.specs.declared.event.Event.TheVariants.{Begin, Reach, G
 use Rattle.claim_history.specs.Board.{BoardData, turn_at, holder_at, hand_at, got_at, gave_at, opening_board}
 use Rattle.claim_history.specs.Event.{touched, touches_of, begun, fault, moved, IsEvent}
 use Rattle.claim_history.specs.Sound.{Reading, HandFits, IsHeld, read, Sound, IsSound}
-use Rattle.claim_history.specs.Tests.{Claims}
+use Rattle.claim_history.specs.Coded.{Claims}
 use Rattle.claim_history.specs.History.{IsHistoryFrom, board_from, numbered, committed, commits_from}
 use Rattle.claim_history.proofs.Legally.{op_there}
 use Rattle.claim_history.proofs.Turns.{one_true, one_false}

@@ -22,7 +22,7 @@ use Rattle.claim_core.specs.Program.{ProgramData, opening_of, before}
 use Rattle.claim_core.proofs.Runs.{legal_at}
 use Rattle.claim_history.specs.Board.{is_there}
 use Rattle.claim_history.specs.Event.{touched, touches_of}
-use Rattle.claim_history.specs.Tests.{Claims}
+use Rattle.claim_history.specs.Coded.{Claims}
 
 -- the start of a legal program is safe
 pub start-safe : (p : ProgramData) → IsLegalProgram p → IsSafe p.machine (opening_of p)

@@ -17,7 +17,7 @@ use Rattle.claim_history.specs.Enabled.{HasGivenAll, IsFinished, IsGiven}
 use Rattle.claim_history.specs.Event.{IsEvent, begun, fault, given, moved, reached, touched}
 use Rattle.claim_history.specs.History.{IsHistory, IsHistoryFrom, board_from, board_of}
 use Rattle.claim_history.specs.Sound.{IsSound, read}
-use Rattle.claim_history.specs.Tests.{Claims}
+use Rattle.claim_history.specs.Coded.{Claims}
 use Rattle.claim_history.proofs.Events.{event-sound, opening-sound, slot_opening}
 use Rattle.claim_history.proofs.Kept.{Moved, turn_kept}
 use Rattle.claim_history.proofs.Legally.{claims-legal}

@@ -10,7 +10,7 @@ use Rattle.claim_history.specs.Board.{BoardData, turn_at, holder_at}
 use Rattle.claim_history.specs.Event.{touched}
 use Rattle.claim_history.specs.Sound.{Sound, HandFits, read, Finished}
 use Rattle.claim_history.specs.Enabled.{IsEnabled, IsReady}
-use Rattle.claim_history.specs.Tests.{has_come, has_passed, is_enabled, is_finished}
+use Rattle.claim_history.specs.Coded.{has_come, has_passed, is_enabled, is_finished}
 use Rattle.claim_history.proofs.Kept.{cases_ℕ}
 use Rattle.claim_history.proofs.Turns.{nth_same}
 use Rattle.claim_history.proofs.Written.{all_or_one}

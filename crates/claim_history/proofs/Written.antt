@@ -18,7 +18,7 @@ use Rattle.claim_history.specs.Event.{touched, is_op, is_free, not_free, fault, 
 use Rattle.qccd_base.specs.FirstFailing.{NoneFails}
 use Rattle.qccd_base.proofs.FirstFailing.{first_met, first_failing-split}
 use Rattle.claim_history.specs.Sound.{read, IsWide}
-use Rattle.claim_history.specs.Tests.{Claims}
+use Rattle.claim_history.specs.Coded.{Claims}
 use Rattle.claim_history.proofs.Kept.{Moved, Begins, Reaches, Gives, cases_ℕ}
 use Rattle.qccd_base.specs.declared.names.Res.TheVariants as res
 

@@ -41,18 +41,18 @@ not_free p b k r =
 -- and each resource is free at the operation's turn. Reach: the operation is the worker's, it touches the
 -- resource, and did not get it yet. Give: the operation is the worker's, touches the resource, got all
 -- of its resources, and did not give this one yet
-abbrev pub needs : ProgramData → BoardData → Event → List (ActFault × Bool)
-needs p b (Begin w k) =
+abbrev pub asks : ProgramData → BoardData → Event → List (ActFault × Bool)
+asks p b (Begin w k) =
     (NotYours w (hand_at b w).op, is_none (hand_at b w).op) ∷ map (λ q. (not_free p b k q, is_free p b k q)) (touched p.ops k)
-needs p b (Reach w k r) =
+asks p b (Reach w k r) =
     (NotYours w (hand_at b w).op, is_op (hand_at b w).op k) ∷ (Untouched r, among (touched p.ops k) r) ∷ (Again r, not (got_at p b w r)) ∷ []
-needs p b (Give w k r) =
+asks p b (Give w k r) =
     (NotYours w (hand_at b w).op, is_op (hand_at b w).op k) ∷ (Untouched r, among (touched p.ops k) r)
     ∷ map (λ q. (NotGot q, got_at p b w q)) (touched p.ops k) ++ (Again r, not (gave_at p b w r)) ∷ []
 
 -- why an event can't happen, or none where it can
 abbrev pub fault : ProgramData → BoardData → Event → Option ActFault
-fault p b e = first_failing (needs p b e)
+fault p b e = first_failing (asks p b e)
 
 -- the board with this slot for the resource and this hand for the worker
 abbrev pub with_both : ProgramData → BoardData → Res → Slot → ℕ → HandData → BoardData

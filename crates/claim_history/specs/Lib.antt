@@ -6,4 +6,4 @@ pub mod Example
 pub mod History
 pub mod Order
 pub mod Sound
-pub mod Tests
+pub mod Coded

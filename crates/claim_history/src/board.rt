@@ -10,7 +10,7 @@ ghost use Rattle.claim_history.specs.declared.event.Event.TheVariants.{Begin, Gi
 ghost use Rattle.claim_history.specs.Event.{Allowed, IsEvent, begun, fault, given, is_free, moved, not_free, reached, touched};
 ghost use Rattle.claim_history.specs.History.{IsBoardOf};
 ghost use Rattle.claim_history.specs.Sound.{IsWide};
-ghost use Rattle.claim_history.specs.Tests.{Claims, Suits, is_enabled, is_finished};
+ghost use Rattle.claim_history.specs.Coded.{Claims, Suits, is_enabled, is_finished};
 
 use crate::event::{ActFault, Event};
 use crate::flags::{flag, is_among, is_in_hand, left, needed, touched_by};

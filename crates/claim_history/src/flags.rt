@@ -6,7 +6,7 @@ ghost use Rattle.qccd_base.specs.Resource.{among, same_res};
 ghost use Rattle.op_table.specs.Touch.{nth};
 ghost use Rattle.claim_history.specs.Board.{flag_at, is_there, width};
 ghost use Rattle.claim_history.specs.Event.{is_op, left_in_hand, touched};
-ghost use Rattle.claim_history.specs.Tests.{Claims};
+ghost use Rattle.claim_history.specs.Coded.{Claims};
 
 use claim_core::Program;
 use op_cells::index_of;

@@ -1,6 +1,6 @@
 use Rattle.std.proofs.Common.{◌≡◌, drop}
 use Rattle.std.specs.List.{list_all}
-use Rattle.claim_history.specs.Tests.{has_passed}
+use Rattle.claim_history.specs.Coded.{has_passed}
 use Rattle.claim_history.proofs.board.Board.is_finished.Given as goal
 
 abbrev pub invariant-loop-i : goal.invariant-loop-i

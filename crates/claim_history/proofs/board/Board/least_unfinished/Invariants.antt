@@ -1,5 +1,5 @@
 use Rattle.std.proofs.Common.{◌≡◌, ◌<◌, ℕ, true}
-use Rattle.claim_history.specs.Tests.{is_finished}
+use Rattle.claim_history.specs.Coded.{is_finished}
 use Rattle.claim_history.proofs.board.Board.least_unfinished.Given as goal
 
 abbrev pub invariant-loop-k : goal.invariant-loop-k
