@@ -19,24 +19,12 @@ if ! [ -x "$program" ]; then
     exit 1
 fi
 
-# The least wall time of some rounds in nanoseconds, of a line of the program.
-least_time() {
-    least=
-    round=0
-    while [ "$round" -lt "$rounds" ]; do
-        start=$(date +%s%N)
-        echo "$1" | "$program" >/dev/null || exit 1
-        took=$(($(date +%s%N) - start))
-        if [ -z "$least" ] || [ "$took" -lt "$least" ]; then least=$took; fi
-        round=$((round + 1))
-    done
-    echo "$least"
-}
+. "$here/least_time.sh"
 
 # Tells what an operation takes: a name, then the line without and with the operations.
 tell() {
-    without=$(least_time "$2") || exit 1
-    with=$(least_time "$3") || exit 1
+    without=$(least_time "$program" "$2" "$rounds") || exit 1
+    with=$(least_time "$program" "$3" "$rounds") || exit 1
     echo "  $1 $(((with - without) / (4 * gates * times))) ns an operation"
 }
 echo "least wall time of $rounds rounds, $((4 * gates * times)) operations:"

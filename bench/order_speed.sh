@@ -17,21 +17,9 @@ if ! [ -x "$program" ]; then
     exit 1
 fi
 
-# The least wall time of some rounds in nanoseconds, with so many orders in each.
-least_time() {
-    least=
-    round=0
-    while [ "$round" -lt "$rounds" ]; do
-        start=$(date +%s%N)
-        printf %s "$1" | "$program" >/dev/null || exit 1
-        took=$(($(date +%s%N) - start))
-        if [ -z "$least" ] || [ "$took" -lt "$least" ]; then least=$took; fi
-        round=$((round + 1))
-    done
-    echo "$least"
-}
-none=$(least_time 0) || exit 1
-many=$(least_time "$times") || exit 1
+. "$here/least_time.sh"
+none=$(least_time "$program" 0 "$rounds") || exit 1
+many=$(least_time "$program" "$times" "$rounds") || exit 1
 echo "least wall time of $rounds rounds, 65536 gates on 256 qubits:"
 echo "  circuit made  $((none / 1000)) microseconds"
 echo "  one order     $(((many - none) / times / 1000)) microseconds"
