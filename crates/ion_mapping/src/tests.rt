@@ -1,4 +1,5 @@
-//! The start chains of small circuits, worked out by hand, and of large ones with ample memory.
+//! The start chains of the largest circuit, with ample memory, and the text of a refusal. Start chains of smaller
+//! circuits are rows of commands.
 
 use super::*;
 use qccd_base::{BitList, End, NoMemory, Qubit, QubitList, Times, TrapId};
@@ -8,83 +9,18 @@ use std::alloc::Global;
 use std::process::Abort;
 use std::test::Fail;
 
-/// Adds a gate on these qubits, or a barrier where they are not one or two. What does not fit is left out.
-fn add(circuit: &mut Circuit, alloc: Global, qubits: &[u16]) -> Result<(), NoMemory> {
-    let (kind, name): (ItemKind, &[u8]) = match qubits.len() {
-        1 => (ItemKind::Gate1, b"x"),
-        2 => (ItemKind::Gate2, b"cx"),
-        _ => (ItemKind::Barrier, b"barrier"),
-    };
-    let name = Name::of(Vec::from_slice(alloc, name)?);
+/// Adds a gate on this qubit, where the circuit has it.
+fn add(circuit: &mut Circuit, alloc: Global, qubit: Qubit) -> Result<(), NoMemory> {
+    let name = Name::of(Vec::from_slice(alloc, b"x")?);
     let angles = AngleList::of(Vec::new(alloc));
+    let qubits = QubitList::of(Vec::from_slice(alloc, &[qubit])?);
     let bits = BitList::of(Vec::new(alloc));
-    let qubits = QubitList::of(qubits.iter().map(|number| Qubit(*number)).collect(alloc)?);
-    if fits(kind, &name, &angles, &qubits, &bits, &None) {
-        let item = Item::of(kind, name, angles, qubits, bits, None);
+    if fits(ItemKind::Gate1, &name, &angles, &qubits, &bits, &None) {
+        let item = Item::of(ItemKind::Gate1, name, angles, qubits, bits, None);
         if circuit.items().len() < 65536 && item.is_within(circuit.qubits(), circuit.bits()) {
             circuit.add(item)?;
         }
     }
-    Ok(())
-}
-
-/// Whether the circuit of these gates starts on the machine with these chains.
-fn starts(
-    alloc: Global,
-    machine: &Machine,
-    qubits: u16,
-    gates: &[&[u16]],
-    chains: &[&[u16]],
-) -> Result<bool, MapFault> {
-    let mut circuit = Circuit::begin(alloc, qubits.min(256), 0);
-    for gate in gates {
-        add(&mut circuit, alloc, gate)?;
-    }
-    let placed = place(alloc, &circuit, machine)?;
-    Ok(
-        placed.len() == chains.len()
-            && placed.iter().zip(chains).all(|(placed, chain)| placed
-                .as_slice()
-                .iter()
-                .map(|ion| ion.0)
-                .eq(chain.iter().copied())),
-    )
-}
-
-#[test]
-fn on_known_machines(rt: HostRuntime) -> Result<(), Fail> {
-    let alloc = rt.alloc();
-    let eleven: &[&[u16]] = &[
-        &[0],
-        &[1],
-        &[2],
-        &[3],
-        &[4],
-        &[5],
-        &[6],
-        &[7],
-        &[8],
-        &[9],
-        &[10],
-        &[0, 10],
-    ];
-    let pairs: &[&[u16]] = &[&[0, 1], &[2, 3], &[4, 5], &[6, 7], &[8, 9], &[10]];
-    let line = preset_machine(alloc, Preset::L6, 2)?;
-    assert!(rt; starts(alloc, &line, 11, eleven, pairs)?);
-    let grid = preset_machine(alloc, Preset::G2x3, 4)?;
-    assert!(rt; starts(alloc, &grid, 11, eleven, pairs)?);
-    let wide = preset_machine(alloc, Preset::L6, 5)?;
-    assert!(rt;
-        starts(
-            alloc,
-            &wide,
-            4,
-            &[&[0, 1], &[2], &[0, 3]],
-            &[&[0, 1, 2], &[3], &[], &[], &[], &[]]
-        )?
-    );
-    let single = preset_machine(alloc, Preset::Single, 3)?;
-    assert!(rt; starts(alloc, &single, 3, &[&[2], &[1, 2], &[0, 2]], &[&[2, 1, 0]])?);
     Ok(())
 }
 
@@ -93,19 +29,12 @@ fn too_many_qubits(rt: HostRuntime) -> Result<(), Fail> {
     let alloc = rt.alloc();
     let line = preset_machine(alloc, Preset::L6, 2)?;
     let circuit = Circuit::begin(alloc, 12, 0);
-    let short = MapFault::Shortage {
-        qubits: 12,
-        slots: 11,
-    };
     match place(alloc, &circuit, &line) {
         Ok(_) => assert!(rt; false),
-        Err(fault) => {
-            assert_eq!(rt; fault, short);
-            assert_eq!(rt;
-                format!(in alloc; "{fault}")?.as_str(),
-                "12 qubits, 11 slots"
-            );
-        }
+        Err(fault) => assert_eq!(rt;
+            format!(in alloc; "{fault}")?.as_str(),
+            "12 qubits, 11 slots"
+        ),
     }
     Ok(())
 }
@@ -139,7 +68,7 @@ fn as_many_as_there_can_be(rt: HostRuntime) -> Result<(), Fail> {
     let machine = longest_line(alloc, 9)?;
     let mut circuit = Circuit::begin(alloc, 256, 0);
     for number in 0..65535u32 {
-        add(&mut circuit, alloc, &[(number % 255 + 1) as u16])?;
+        add(&mut circuit, alloc, Qubit((number % 255 + 1) as u16))?;
     }
     let placed = place(alloc, &circuit, &machine)?;
     assert_eq!(rt; placed.len(), 32);
