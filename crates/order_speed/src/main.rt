@@ -15,9 +15,9 @@ fn add_gate(
     first: Qubit,
     second: Qubit,
 ) -> Result<(), NoMemory> {
-    let name = Name::of(Vec::from_slice(alloc, b"cx")?);
+    let name = Name::from_slice(alloc, b"cx")?;
     let angles = AngleList::of(Vec::new(alloc));
-    let qubits = QubitList::of(Vec::from_slice(alloc, &[first, second])?);
+    let qubits = QubitList::from_slice(alloc, &[first, second])?;
     let bits = BitList::of(Vec::new(alloc));
     if !fits(ItemKind::Gate2, &name, &angles, &qubits, &bits, &None) {
         return Ok(());

@@ -67,8 +67,8 @@ pub(crate) fn item_on(
     requires { Fits (record { kind = kind; name = name.now; angles = angles; qubits = qubits.now; bits = []; cond = None }) }
     ensures { IfOk result (λ item. item ≡ record { kind = kind; name = name.now; angles = angles; qubits = qubits.now; bits = []; cond = None }) }
 {
-    let name = Name::of(Vec::from_slice(alloc, name)?);
-    let qubits = QubitList::of(Vec::from_slice(alloc, qubits)?);
+    let name = Name::from_slice(alloc, name)?;
+    let qubits = QubitList::from_slice(alloc, qubits)?;
     let bits = BitList::of(Vec::new(alloc));
     Ok(Item::of(kind, name, angles, qubits, bits, None))
 }
@@ -77,9 +77,9 @@ pub(crate) fn item_on(
 pub(crate) fn measurement(alloc: Global, qubit: Qubit, bit: Bit) -> Result<Item, NoMemory>
     ensures { IfOk result (λ item. item ≡ measure_item qubit.0 bit.0) }
 {
-    let name = Name::of(Vec::from_slice(alloc, b"measure")?);
+    let name = Name::from_slice(alloc, b"measure")?;
     let angles = AngleList::of(Vec::new(alloc));
-    let qubits = QubitList::of(Vec::from_slice(alloc, &[qubit])?);
+    let qubits = QubitList::from_slice(alloc, &[qubit])?;
     let bits = BitList::of(Vec::from_slice(alloc, &[bit])?);
     Ok(Item::of(ItemKind::Measure, name, angles, qubits, bits, None))
 }

@@ -1,8 +1,10 @@
 //! Lists that clauses see as the lists of their elements.
 
-ghost use Rattle.std.specs.Prelude.{◌≡◌, ◌==◌, length};
+ghost use Rattle.std.specs.Prelude.{◌≡◌, ◌==◌, ◌++◌, ◌∷◌, [], IfOk, OnErr, OnOk, length};
 
-use crate::names::{Bit, Ion, Qubit, TrapId};
+use crate::names::{Bit, Ion, NoMemory, Qubit, TrapId};
+use smallvec::SmallVec;
+use std::alloc::Global;
 use std::marker::Model;
 
 /// Ions in order, as a chain from left to right.
@@ -48,19 +50,12 @@ impl IonList {
     {
         self.ions.is_empty()
     }
-
-    /// The vector of the ions.
-    pub fn into_vec(self) -> Vec<Ion>
-        ensures { result.items ≡ self }
-    {
-        self.ions
-    }
 }
 
-/// Qubits in order, as the operands of a gate.
+/// Qubits in order, as the operands of a gate. Up to eight take no memory of their own.
 #[derive(Debug, Drop)]
 pub struct QubitList {
-    qubits: Vec<Qubit>,
+    qubits: SmallVec<Qubit, 8>,
 }
 
 impl Model for QubitList {
@@ -77,7 +72,35 @@ impl QubitList {
     pub fn of(vector: Vec<Qubit>) -> Self
         ensures { result ≡ vector.items }
     {
-        QubitList { qubits: vector }
+        QubitList {
+            qubits: SmallVec::from_vec(vector),
+        }
+    }
+
+    /// The list of no qubit.
+    pub fn new(alloc: Global) -> Self
+        ensures { result ≡ [] }
+    {
+        QubitList {
+            qubits: SmallVec::new(alloc),
+        }
+    }
+
+    /// The list of these qubits.
+    pub fn from_slice(alloc: Global, qubits: &[Qubit]) -> Result<Self, NoMemory>
+        ensures { IfOk result (λ list. list ≡ qubits.now) }
+    {
+        let qubits = SmallVec::from_slice(alloc, qubits)?;
+        Ok(QubitList { qubits })
+    }
+
+    /// Puts the qubit at the end. Where memory runs out, the list stays as it was.
+    pub fn push(&mut self, qubit: Qubit) -> Result<(), NoMemory>
+        ensures ok { OnOk result (self.new ≡ self.old ++ qubit ∷ []) }
+        ensures err { OnErr result (self.new ≡ self.old) }
+    {
+        self.qubits.push(qubit)?;
+        Ok(())
     }
 
     /// The qubits, in order.
@@ -99,13 +122,6 @@ impl QubitList {
         ensures { result ≡ (length self.now == 0) }
     {
         self.qubits.is_empty()
-    }
-
-    /// The vector of the qubits.
-    pub fn into_vec(self) -> Vec<Qubit>
-        ensures { result.items ≡ self }
-    {
-        self.qubits
     }
 }
 
@@ -152,13 +168,6 @@ impl BitList {
     {
         self.bits.is_empty()
     }
-
-    /// The vector of the bits.
-    pub fn into_vec(self) -> Vec<Bit>
-        ensures { result.items ≡ self }
-    {
-        self.bits
-    }
 }
 
 /// Traps in order.
@@ -204,19 +213,13 @@ impl TrapList {
     {
         self.traps.is_empty()
     }
-
-    /// The vector of the traps.
-    pub fn into_vec(self) -> Vec<TrapId>
-        ensures { result.items ≡ self }
-    {
-        self.traps
-    }
 }
 
-/// Positions in a chain, counted from 0 at the left, in the order of the operands.
+/// Positions in a chain, counted from 0 at the left, in the order of the operands. Up to sixteen take no
+/// memory of their own.
 #[derive(Debug, Drop)]
 pub struct PosList {
-    positions: Vec<u8>,
+    positions: SmallVec<u8, 16>,
 }
 
 impl Model for PosList {
@@ -232,7 +235,27 @@ impl PosList {
     pub fn of(vector: Vec<u8>) -> Self
         ensures { result ≡ vector.items }
     {
-        PosList { positions: vector }
+        PosList {
+            positions: SmallVec::from_vec(vector),
+        }
+    }
+
+    /// The list of no position.
+    pub fn new(alloc: Global) -> Self
+        ensures { result ≡ [] }
+    {
+        PosList {
+            positions: SmallVec::new(alloc),
+        }
+    }
+
+    /// Puts the position at the end. Where memory runs out, the list stays as it was.
+    pub fn push(&mut self, position: u8) -> Result<(), NoMemory>
+        ensures ok { OnOk result (self.new ≡ self.old ++ position ∷ []) }
+        ensures err { OnErr result (self.new ≡ self.old) }
+    {
+        self.positions.push(position)?;
+        Ok(())
     }
 
     /// The positions, in order.
@@ -254,12 +277,5 @@ impl PosList {
         ensures { result ≡ (length self.now == 0) }
     {
         self.positions.is_empty()
-    }
-
-    /// The vector of the positions.
-    pub fn into_vec(self) -> Vec<u8>
-        ensures { result.items ≡ self }
-    {
-        self.positions
     }
 }

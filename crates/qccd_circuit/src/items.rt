@@ -144,13 +144,13 @@ impl Item {
         let alloc = self.name.allocator();
         let name = self.name.copy()?;
         let angles = self.angles.copy()?;
-        let qubits = Vec::from_slice(alloc, self.qubits.as_slice())?;
+        let qubits = QubitList::from_slice(alloc, self.qubits.as_slice())?;
         let bits = Vec::from_slice(alloc, self.bits.as_slice())?;
         Ok(Item {
             kind: self.kind,
             name,
             angles,
-            qubits: QubitList::of(qubits),
+            qubits,
             bits: BitList::of(bits),
         })
     }

@@ -3,13 +3,14 @@
 ghost use Rattle.std.specs.Prelude.{◌≡◌, ◌==◌, IfOk, length};
 
 use qccd_base::NoMemory;
+use smallvec::SmallVec;
 use std::alloc::Global;
 use std::marker::Model;
 
-/// The name of an item, as `h` or `measure`.
+/// The name of an item, as `h` or `measure`. One of up to sixteen bytes takes no memory of its own.
 #[derive(Debug, Drop)]
 pub struct Name {
-    bytes: Vec<u8>,
+    bytes: SmallVec<u8, 16>,
 }
 
 impl Model for Name {
@@ -25,7 +26,17 @@ impl Name {
     pub fn of(vector: Vec<u8>) -> Self
         ensures { result ≡ vector.items }
     {
-        Name { bytes: vector }
+        Name {
+            bytes: SmallVec::from_vec(vector),
+        }
+    }
+
+    /// The name of these bytes, copied.
+    pub fn from_slice(alloc: Global, bytes: &[u8]) -> Result<Self, NoMemory>
+        ensures { IfOk result (λ name. name ≡ bytes.now) }
+    {
+        let bytes = SmallVec::from_slice(alloc, bytes)?;
+        Ok(Name { bytes })
     }
 
     /// The bytes, in order.
@@ -49,19 +60,11 @@ impl Name {
         self.bytes.is_empty()
     }
 
-    /// The vector of the bytes.
-    pub fn into_vec(self) -> Vec<u8>
-        ensures { result.items ≡ self }
-    {
-        self.bytes
-    }
-
     /// An equal name.
     pub fn copy(&self) -> Result<Name, NoMemory>
         ensures { IfOk result (λ name. name ≡ self.now) }
     {
-        let bytes = self.bytes.clone()?;
-        Ok(Name { bytes })
+        Name::from_slice(self.allocator(), self.as_slice())
     }
 
     // What the name's memory comes from.
@@ -111,13 +114,6 @@ impl Angle {
         ensures { result ≡ (length self.now == 0) }
     {
         self.bytes.is_empty()
-    }
-
-    /// The vector of the bytes.
-    pub fn into_vec(self) -> Vec<u8>
-        ensures { result.items ≡ self }
-    {
-        self.bytes
     }
 
     /// An equal angle.
@@ -170,13 +166,6 @@ impl AngleList {
         ensures { result ≡ (length self.now == 0) }
     {
         self.angles.is_empty()
-    }
-
-    /// The vector of the angles.
-    pub fn into_vec(self) -> Vec<Angle>
-        ensures { result.items ≡ self }
-    {
-        self.angles
     }
 
     /// An equal list.

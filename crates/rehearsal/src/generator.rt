@@ -61,13 +61,13 @@ fn plain_gate(
     requires { Fits (plain_gate kind name.now qubits.now) }
     ensures { IfOk result (λ item. item ≡ plain_gate kind name.now qubits.now) }
 {
-    let name = Vec::from_slice(alloc, name)?;
-    let qubits = Vec::from_slice(alloc, qubits)?;
+    let name = Name::from_slice(alloc, name)?;
+    let qubits = QubitList::from_slice(alloc, qubits)?;
     Ok(Item::of(
         kind,
-        Name::of(name),
+        name,
         AngleList::of(Vec::new(alloc)),
-        QubitList::of(qubits),
+        qubits,
         BitList::of(Vec::new(alloc)),
         None,
     ))

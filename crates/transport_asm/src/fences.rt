@@ -161,7 +161,7 @@ fn made(
     requires { KeepsItemRule (Fence number (barrier_over qubits.items) traps.items) }
     ensures { IfOk result (λ op. op ≡ Fence number (barrier_over qubits.items) traps.items) }
 {
-    let name = Name::of(Vec::from_slice(alloc, b"barrier")?);
+    let name = Name::from_slice(alloc, b"barrier")?;
     let item = Item::of(
         ItemKind::Barrier,
         name,

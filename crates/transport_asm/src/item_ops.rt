@@ -29,12 +29,6 @@ fn kind_of(name: &[u8], second: Option<(Qubit, u8)>) -> ItemKind
     }
 }
 
-fn name_of(alloc: Global, bytes: &[u8]) -> Result<Name, NoMemory>
-    ensures { IfOk result (λ name. name ≡ bytes.now) }
-{
-    Ok(Name::of(Vec::from_slice(alloc, bytes)?))
-}
-
 fn angle_of(alloc: Global, bytes: &[u8]) -> Result<Angle, NoMemory>
     ensures { IfOk result (λ angle. angle ≡ bytes.now) }
 {
@@ -61,12 +55,12 @@ fn qubit_list(
 ) -> Result<QubitList, NoMemory>
     ensures { IfOk result (λ list. list ≡ first.0 ∷ map (λ q. q.0) (as_list second)) }
 {
-    let mut qubits = Vec::new(alloc);
+    let mut qubits = QubitList::new(alloc);
     qubits.push(first.0)?;
     if let Some((qubit, _)) = second {
         qubits.push(qubit)?;
     }
-    Ok(QubitList::of(qubits))
+    Ok(qubits)
 }
 
 fn position_list(
@@ -76,12 +70,12 @@ fn position_list(
 ) -> Result<PosList, NoMemory>
     ensures { IfOk result (λ list. list ≡ first.1 ∷ map (λ q. q.1) (as_list second)) }
 {
-    let mut positions = Vec::new(alloc);
+    let mut positions = PosList::new(alloc);
     positions.push(first.1)?;
     if let Some((_, position)) = second {
         positions.push(position)?;
     }
-    Ok(PosList::of(positions))
+    Ok(positions)
 }
 
 fn bit_list(alloc: Global, bit: Option<Bit>) -> Result<BitList, NoMemory>
@@ -100,7 +94,7 @@ fn made(alloc: Global, head: HeadWords<'_>, tail: TailWords) -> Result<OpKind, N
     ensures { IfOk result (λ op. op ≡ item_op (head_of head.entry) (tail_of tail)) }
 {
     let kind = kind_of(head.gate.name, tail.second);
-    let name = name_of(alloc, head.gate.name)?;
+    let name = Name::from_slice(alloc, head.gate.name)?;
     let angles = angle_list(alloc, head.gate.angles)?;
     let qubits = qubit_list(alloc, head.first, tail.second)?;
     let bits = bit_list(alloc, tail.bit)?;
