@@ -44,6 +44,14 @@ line() {
     }'
 }
 
+# Gates with an angle, as a Fourier transform has them.
+turns() {
+    awk 'BEGIN {
+        printf "OPENQASM 2.0;\ninclude \"qelib1.inc\";\nqreg q[32];\n"
+        for (n = 0; n < 65536; n++) printf "cp(pi/%d) q[%d],q[%d];\n", 2 ^ (n % 16 + 1), n % 32, (n + 1 + n % 31) % 32
+    }'
+}
+
 # Gates that take one qubit to the far end of the line and back.
 far() {
     awk -v turns="$1" 'BEGIN {
@@ -52,10 +60,18 @@ far() {
     }'
 }
 
-# Seconds of processor time, and the most memory in KiB.
+# Seconds of processor time, the mean of some rounds, and the most memory in KiB.
 measure() {
-    /usr/bin/time -f "%U %S %M" -o "$folder/took" "$@" >"$folder/out" 2>"$folder/err"
-    awk '{ printf "%.3f %d", $1 + $2, $3 }' "$folder/took"
+    /usr/bin/time -f "%U %S %M" -o "$folder/took" sh -c '
+        left=$1
+        out=$2
+        shift 2
+        while [ "$left" -gt 0 ]; do
+            "$@" >"$out"
+            left=$((left - 1))
+        done
+    ' measure "$rounds" "$folder/out" "$@" 2>"$folder/err"
+    awk -v rounds="$rounds" '{ printf "%.4f %d", ($1 + $2) / rounds, $3 }' "$folder/took"
 }
 
 row() {
@@ -67,7 +83,7 @@ row() {
     set -- "$1" "$2" $(measure wc "$folder/report")
     words=$3
     awk -v name="$name" -v ops="$ops" -v run="$1" -v memory="$2" -v words="$3" 'BEGIN {
-        printf "%s: %d operations, run %.3f s, %.2f of wc (%.3f s), %d MB, %d bytes and %d ns an operation\n",
+        printf "%s: %d operations, run %.4f s, %.2f of wc (%.4f s), %d MB, %d bytes and %d ns an operation\n",
             name, ops, run, words ? run / words : 0, words, memory / 1024, ops ? memory * 1024 / ops : 0, ops ? run * 1e9 / ops : 0
     }'
 }
@@ -79,7 +95,7 @@ compiled() {
     mv "$folder/out" "$folder/program"
     took=$1
     set -- $(measure wc "$folder/program")
-    awk -v took="$took" -v words="$1" 'BEGIN { printf "    compile %.3f s, %.2f of wc\n", took, words ? took / words : 0 }'
+    awk -v took="$took" -v words="$1" 'BEGIN { printf "    compile %.4f s, %.2f of wc\n", took, words ? took / words : 0 }'
 }
 
 executed() {
@@ -88,20 +104,20 @@ executed() {
     took=$1
     memory=$2
     set -- $(measure wc "$folder/program" "$folder/report")
-    awk -v took="$took" -v words="$1" -v memory="$memory" 'BEGIN { printf "    exec %.3f s, %.2f of wc, %d MB\n", took, words ? took / words : 0, memory / 1024 }'
+    awk -v took="$took" -v words="$1" -v memory="$memory" 'BEGIN { printf "    exec %.4f s, %.2f of wc, %d MB\n", took, words ? took / words : 0, memory / 1024 }'
 }
 
 checked() {
     set -- $(measure "$program" check "$1" "$folder/circuit" "$folder/program")
     took=$1
     set -- $(measure wc "$folder/circuit" "$folder/program")
-    awk -v took="$took" -v words="$1" 'BEGIN { printf "    check %.3f s, %.2f of wc\n", took, words ? took / words : 0 }'
+    awk -v took="$took" -v words="$1" 'BEGIN { printf "    check %.4f s, %.2f of wc\n", took, words ? took / words : 0 }'
 }
 
 # The same from the number: no text of a circuit, and a summary in place of the report.
 rehearsed() {
     set -- $(measure "$program" rehearse 7 "$1" 65536 "$2")
-    awk -v took="$1" -v words="$words" 'BEGIN { printf "    rehearse %.3f s, %.2f of wc\n", took, words ? took / words : 0 }'
+    awk -v took="$1" -v words="$words" 'BEGIN { printf "    rehearse %.4f s, %.2f of wc\n", took, words ? took / words : 0 }'
 }
 
 all_of() {
@@ -111,9 +127,13 @@ all_of() {
     checked "$2"
 }
 
+rounds=20
 circuit 32 >"$folder/circuit"
 all_of "@single:32, 32 qubits" @single:32
 rehearsed 32 @single:32
+turns >"$folder/circuit"
+all_of "@single:32, 32 qubits, gates with angles" @single:32
+rounds=3
 circuit 95 >"$folder/circuit"
 all_of "@L6:16, 95 qubits" @L6:16
 rehearsed 95 @L6:16

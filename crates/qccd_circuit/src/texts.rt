@@ -73,10 +73,11 @@ impl Name {
     }
 }
 
-/// An angle of a gate, as the text that the circuit was written with.
+/// An angle of a gate, as the text that the circuit was written with. One of up to sixteen bytes takes no
+/// memory of its own.
 #[derive(Debug, Drop)]
 pub struct Angle {
-    bytes: Vec<u8>,
+    bytes: SmallVec<u8, 16>,
 }
 
 impl Model for Angle {
@@ -92,7 +93,17 @@ impl Angle {
     pub fn of(vector: Vec<u8>) -> Self
         ensures { result ≡ vector.items }
     {
-        Angle { bytes: vector }
+        Angle {
+            bytes: SmallVec::from_vec(vector),
+        }
+    }
+
+    /// The angle of these bytes, copied.
+    pub fn from_slice(alloc: Global, bytes: &[u8]) -> Result<Self, NoMemory>
+        ensures { IfOk result (λ angle. angle ≡ bytes.now) }
+    {
+        let bytes = SmallVec::from_slice(alloc, bytes)?;
+        Ok(Angle { bytes })
     }
 
     /// The bytes, in order.
@@ -120,8 +131,7 @@ impl Angle {
     pub fn copy(&self) -> Result<Angle, NoMemory>
         ensures { IfOk result (λ angle. angle ≡ self.now) }
     {
-        let bytes = self.bytes.clone()?;
-        Ok(Angle { bytes })
+        Angle::from_slice(*self.bytes.allocator(), self.as_slice())
     }
 }
 
@@ -181,7 +191,7 @@ impl AngleList {
 fn copies(alloc: Global, angles: &[Angle]) -> Result<Vec<Angle>, NoMemory>
     ensures { IfOk result (λ copies. copies.items ≡ angles.now) }
 {
-    let mut copies = Vec::new(alloc);
+    let mut copies = Vec::with_capacity(alloc, angles.len())?;
     for angle in angles {
         copies.push(angle.copy()?)?;
     }

@@ -29,12 +29,6 @@ fn kind_of(name: &[u8], second: Option<(Qubit, u8)>) -> ItemKind
     }
 }
 
-fn angle_of(alloc: Global, bytes: &[u8]) -> Result<Angle, NoMemory>
-    ensures { IfOk result (λ angle. angle ≡ bytes.now) }
-{
-    Ok(Angle::of(Vec::from_slice(alloc, bytes)?))
-}
-
 fn angle_list(alloc: Global, angles: Option<&[u8]>) -> Result<AngleList, NoMemory>
     ensures { IfOk result (λ list. list ≡ angles_left (option_copied angles.entry)) }
 {
@@ -42,7 +36,7 @@ fn angle_list(alloc: Global, angles: Option<&[u8]>) -> Result<AngleList, NoMemor
     let mut left = angles;
     while let Some(text) = left {
         let (angle, rest) = cut_at(text, b',');
-        list.push(angle_of(alloc, angle)?)?;
+        list.push(Angle::from_slice(alloc, angle)?)?;
         left = rest;
     }
     Ok(AngleList::of(list))
