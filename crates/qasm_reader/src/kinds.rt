@@ -1,9 +1,10 @@
 //! Kinds of registers and of statements.
 
 /// What a register is of.
-#[derive(Clone, Copy, Debug, PartialEq, Eq, Hash)]
+#[derive(Clone, Copy, Debug, Default, PartialEq, Eq, Hash)]
 pub(crate) enum RegisterKind {
     /// Qubits.
+    #[default]
     Quantum,
     /// Classical bits.
     Classical,
@@ -25,7 +26,7 @@ pub(crate) enum Opening {
 }
 
 /// A register: its cells are so many, numbered on from the first.
-#[derive(Clone, Copy, Debug, PartialEq, Eq, Hash)]
+#[derive(Clone, Copy, Debug, Default, PartialEq, Eq, Hash)]
 pub(crate) struct Register {
     pub kind: RegisterKind,
     pub first: u16,
@@ -33,7 +34,7 @@ pub(crate) struct Register {
 }
 
 /// An operand: the whole register, or the cell of an index.
-#[derive(Clone, Copy, Debug, PartialEq, Eq, Hash)]
+#[derive(Clone, Copy, Debug, Default, PartialEq, Eq, Hash)]
 pub(crate) struct Operand {
     pub register: Register,
     pub index: Option<u16>,

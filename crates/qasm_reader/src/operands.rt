@@ -17,7 +17,11 @@ use crate::kinds::{Operand, RegisterKind};
 use crate::operand::{comma, operand};
 use crate::pieces::refused;
 use crate::state::State;
+use smallvec::SmallVec;
 use std::alloc::Global;
+
+/// The operands of a gate. Those of a known gate need no memory of their own.
+pub(crate) type OperandList = SmallVec<Operand, 4>;
 
 fn is_whole(operand: &Operand) -> bool
     ensures { result ≡ is_whole operand.now }
@@ -96,7 +100,7 @@ pub(crate) fn gate_operands<'a>(
     state: &State,
     lacking: bool,
     cursor: &Cursor<'a>,
-) -> Result<(Vec<Operand>, Cursor<'a>), QasmFault>
+) -> Result<(OperandList, Cursor<'a>), QasmFault>
     requires { IsSound (known state.now) }
     ensures apart { IfOk result (λ p. AreApart p.0.items) }
     ensures below { IfOk result (λ p. All (LiesBelow state.now.qubits) p.0.items) }
@@ -106,7 +110,7 @@ pub(crate) fn gate_operands<'a>(
         (operand (of_gate (record { gate = g; angles = angles; missing = lacking; operands = [] }))) cursor.now)
         (λ p. answer_from (known state.now) (behind_operand (of_gate (record { gate = g; angles = angles; missing = false; operands = p.0.items }))) p.1) result }
 {
-    let mut operands = Vec::new(alloc);
+    let mut operands = SmallVec::new(alloc);
     let (_, first, mut rest) = operand(state, RegisterKind::Quantum, lacking, cursor)?;
     operands.push(first)?;
     while let Some(after) = comma(&rest) {

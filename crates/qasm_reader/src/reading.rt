@@ -20,7 +20,6 @@ use crate::state::State;
 use crate::statements::statement;
 use crate::words::{is, same};
 use qasm_lex::{LexFault, Token, TokenKind, lex};
-use qccd_base::NoMemory;
 use qccd_circuit::Circuit;
 use std::alloc::Global;
 
@@ -57,9 +56,9 @@ fn header<'a>(cursor: &Cursor<'a>) -> Result<Cursor<'a>, QasmFault>
 }
 
 // The circuit of what is known.
-fn build(alloc: Global, state: State) -> Result<Circuit, NoMemory>
+fn build(state: State) -> Circuit
     requires { IsSound (known state) }
-    ensures { IfOk result (λ c. c ≡ circuit_of (known state)) }
+    ensures { result ≡ circuit_of (known state) }
 {
     let State {
         qubits,
@@ -67,11 +66,7 @@ fn build(alloc: Global, state: State) -> Result<Circuit, NoMemory>
         items,
         ..
     } = state;
-    let mut circuit = Circuit::begin(alloc, qubits, bits);
-    for item in items {
-        circuit.add(item)?;
-    }
-    Ok(circuit)
+    Circuit::of(qubits, bits, items)
 }
 
 // The circuit of the tokens.
@@ -84,7 +79,7 @@ fn circuit_from(alloc: Global, cursor: &Cursor<'_>) -> Result<Circuit, QasmFault
     while let Some((first, behind)) = rest.next() {
         rest = statement(alloc, &mut state, &first, &behind)?;
     }
-    Ok(build(alloc, state)?)
+    Ok(build(state))
 }
 
 // The tokens of the text.

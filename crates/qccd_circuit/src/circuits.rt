@@ -54,6 +54,18 @@ impl Circuit {
         })
     }
 
+    /// The circuit of these items.
+    pub fn of(qubits: u16, bits: u16, items: Vec<Item>) -> Circuit
+        requires { IsCircuit (record { qubits = qubits; bits = bits; items = items.items }) }
+        ensures { result ≡ record { qubits = qubits; bits = bits; items = items.items } }
+    {
+        Circuit {
+            qubits,
+            bits,
+            items,
+        }
+    }
+
     /// How many qubits the circuit has.
     pub fn qubits(&self) -> u16
         ensures { result ≡ self.now.qubits }

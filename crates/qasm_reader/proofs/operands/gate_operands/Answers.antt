@@ -38,7 +38,7 @@ returns-in_err-apart-clause-leads c = λ g angles.
     leads_exit_later _ _ _ _ _ c.from_residual-in_err-apart.ensures.1
     (c.loop-after.invariant.leads g angles ∙ c.in-Some.ensures.found k here ∙ at.ensures.leads here refl refl)
     (subst (λ (others : List Operand). Tells (answer_behind (operand_done k (role g angles others) at.at at.next) at.behind) c.in_err-apart.field-0.0)
-    c.deref.ensures.value (c.in_err-apart.ensures.leads k (called g angles os) at.behind))
+    c.deref.ensures (c.in_err-apart.ensures.leads k (called g angles os) at.behind))
 
 pub loop-after-preserved : goal.loop-after-preserved
 loop-after-preserved c =
@@ -46,8 +46,8 @@ loop-after-preserved c =
     let os = c.loop-after.operands.items in
     let at = c.in_ok-at in
     let inv = c.loop-after.invariant in
-    let same : c.deref.result.now ≡ os = c.deref.ensures.value in
-    let one_more : c.push-in-Some.new.self.items ≡ os ++ at.next ∷ [] = c.in_ok-push-2.ensures.items in
+    let same : c.deref.result.now ≡ os = c.deref.ensures in
+    let one_more : c.push-in-Some.new.self.items ≡ os ++ at.next ∷ [] = c.in_ok-push-2.ensures.ok in
     record {
       apart = subst AreApart (sym one_more) (apart_more os at.next inv.apart (ap (list_any (differ at.next)) (sym same) ∙ c.in_ok-apart.ensures.sizes)
           (ap (list_any (share at.next)) (sym same) ∙ c.in_ok-apart.ensures.cells));
