@@ -11,15 +11,15 @@ fn piece_len(text: &[u8]) -> Option<usize>
     ensures found { IfSome result (BeginsGap text.now) }
     ensures none { IfNone result (begins_gap text.now ≡ false) }
 {
+    // Most gaps are one byte of white space, and so this is looked for first.
+    let first = text.first()?;
+    if first.is_ascii_whitespace() {
+        return Some(1);
+    }
     if begins_pair(text, b'/', b'/') {
         return Some(2 + line_len(&text[2..]));
     }
-    let first = text.first()?;
-    if first.is_ascii_whitespace() {
-        Some(1)
-    } else {
-        None
-    }
+    None
 }
 
 /// How many bytes of white space and comments the text begins with.

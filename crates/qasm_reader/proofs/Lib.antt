@@ -20,3 +20,4 @@ pub mod Mentions
 pub mod Reached
 pub mod Answered
 pub mod Unconditional
+pub mod GateRows

@@ -1,7 +1,8 @@
 //! The gates that are known by name.
 
-ghost use Rattle.std.specs.Prelude.{◌≡◌, map, option_map};
-ghost use Rattle.qasm_reader.specs.Gates.{gate_in, gate_of};
+ghost use Rattle.std.specs.Prelude.{◌≡◌, ◌==◌, map, option_map};
+ghost use Rattle.qasm_lex.specs.Runs.{begins};
+ghost use Rattle.qasm_reader.specs.Gates.{gate_in, gate_of, included};
 ghost use Rattle.qasm_reader.specs.Named.{row_gate, shape};
 
 use crate::words::same;
@@ -19,23 +20,20 @@ pub(crate) struct KnownGate {
 // The gates that every text may use: name, angles, qubits.
 const ALWAYS: [(&[u8], u8, u8); 2] = [(b"U", 3, 1), (b"CX", 0, 2)];
 
-// The gates that a text may use after the include: name, angles, qubits.
-const INCLUDED: [(&[u8], u8, u8); 37] = [
-    (b"id", 0, 1),
+// Of the gates that a text may use after the include those of one letter: name, angles, qubits.
+const SHORT: [(&[u8], u8, u8); 8] = [
     (b"x", 0, 1),
     (b"y", 0, 1),
     (b"z", 0, 1),
     (b"h", 0, 1),
     (b"s", 0, 1),
-    (b"sdg", 0, 1),
     (b"t", 0, 1),
-    (b"tdg", 0, 1),
-    (b"u1", 1, 1),
-    (b"rx", 1, 1),
-    (b"ry", 1, 1),
-    (b"rz", 1, 1),
-    (b"u2", 2, 1),
-    (b"u3", 3, 1),
+    (b"p", 1, 1),
+    (b"u", 3, 1),
+];
+
+// Those of more letters that begin with `c`.
+const WITH_C: [(&[u8], u8, u8); 14] = [
     (b"cx", 0, 2),
     (b"cz", 0, 2),
     (b"cy", 0, 2),
@@ -44,20 +42,31 @@ const INCLUDED: [(&[u8], u8, u8); 37] = [
     (b"cu1", 1, 2),
     (b"cu3", 3, 2),
     (b"ccx", 0, 3),
-    (b"sx", 0, 1),
-    (b"sxdg", 0, 1),
-    (b"p", 1, 1),
-    (b"u0", 1, 1),
-    (b"u", 3, 1),
-    (b"swap", 0, 2),
     (b"csx", 0, 2),
     (b"crx", 1, 2),
     (b"cry", 1, 2),
     (b"cp", 1, 2),
-    (b"rxx", 1, 2),
-    (b"rzz", 1, 2),
     (b"cu", 4, 2),
     (b"cswap", 0, 3),
+];
+
+// The others.
+const OTHERS: [(&[u8], u8, u8); 15] = [
+    (b"id", 0, 1),
+    (b"sdg", 0, 1),
+    (b"tdg", 0, 1),
+    (b"u1", 1, 1),
+    (b"rx", 1, 1),
+    (b"ry", 1, 1),
+    (b"rz", 1, 1),
+    (b"u2", 2, 1),
+    (b"u3", 3, 1),
+    (b"sx", 0, 1),
+    (b"sxdg", 0, 1),
+    (b"u0", 1, 1),
+    (b"swap", 0, 2),
+    (b"rxx", 1, 2),
+    (b"rzz", 1, 2),
 ];
 
 // The gate of this name among some.
@@ -79,18 +88,35 @@ fn gate_in(gates: &[(&'static [u8], u8, u8)], name: &[u8]) -> Option<KnownGate>
     None
 }
 
+// Whether the name begins with `c`.
+fn begins_with_c(name: &[u8]) -> bool
+    ensures { result ≡ begins (λ c. c == 99) name.now }
+{
+    match name {
+        [] => false,
+        [first, ..] => *first == b'c',
+    }
+}
+
+// The gate of this name among those of the include.
+fn included_gate(name: &[u8]) -> Option<KnownGate>
+    ensures { option_map shape result ≡ gate_in included name.now }
+{
+    if name.len() == 1 {
+        gate_in(&SHORT, name)
+    } else if begins_with_c(name) {
+        gate_in(&WITH_C, name)
+    } else {
+        gate_in(&OTHERS, name)
+    }
+}
+
 /// The gate of this name, before the include or after it.
 pub(crate) fn gate_of(included: bool, name: &[u8]) -> Option<KnownGate>
     ensures { option_map shape result ≡ gate_of included name.now }
 {
     match gate_in(&ALWAYS, name) {
         Some(gate) => Some(gate),
-        None => {
-            if included {
-                gate_in(&INCLUDED, name)
-            } else {
-                None
-            }
-        }
+        None => { if included { included_gate(name) } else { None } }
     }
 }
