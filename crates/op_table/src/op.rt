@@ -34,6 +34,8 @@ impl Model for Op {
 impl Op {
     /// The operation of this kind, or that memory ran out, which comes only where it touches more than
     /// two resources.
+    // The caller mostly knows the kind, and inlined the operation is built where it goes.
+    #[inline(always)]
     pub fn of(alloc: Global, kind: OpKind) -> Result<Op, NoMemory>
         requires { IsOp kind }
         ensures { IfOk result (λ op. op ≡ kind) }
