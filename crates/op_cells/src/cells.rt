@@ -96,6 +96,7 @@ impl Cells {
 
 /// Does the operation, as number `k`, on the cells that it touches: on what they hold, on the clock of
 /// each, and in the log of the first. All others stay. It takes no memory.
+#[inline(always)]
 pub fn run_one(machine: &Machine, k: u32, op: &Op, cells: &mut Cells)
     requires { MayRun machine.now op.now cells.old }
     ensures { (bits : ℕ) → Ran machine.now bits k op.now cells.old cells.new }
@@ -105,6 +106,7 @@ pub fn run_one(machine: &Machine, k: u32, op: &Op, cells: &mut Cells)
 
 /// Does the operation on what the cells hold that it touches, and leaves each of these cold: every heat
 /// there is 0. All clocks and logs stay, and so do the other cells. It takes no memory.
+#[inline(always)]
 pub fn run_cold(machine: &Machine, op: &Op, cells: &mut Cells)
     requires { MayRunCold machine.now op.now cells.old }
     ensures { (bits : ℕ) → RanCold machine.now bits op.now cells.old cells.new }

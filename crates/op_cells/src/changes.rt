@@ -12,6 +12,7 @@ use op_table::{Content, Op, OpKind};
 use qccd_machine::{Machine, Place};
 
 /// Does an operation that touches one resource.
+#[inline(always)]
 pub(crate) fn change_one(machine: &Machine, op: &Op, content: &mut Content)
     requires one { length (touches op.now) ≡ 1 }
     requires legal { IsLegalOn machine.now op.now (content.old ∷ []) }

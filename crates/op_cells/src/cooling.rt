@@ -12,6 +12,7 @@ use qccd_base::Res;
 use qccd_machine::Machine;
 
 /// Does the operation on what the cells of all resources hold, and leaves what it touched cold.
+#[inline(always)]
 pub(crate) fn run_cold_on(machine: &Machine, op: &Op, cells: &mut [Cell])
     requires { MayRunCold machine.now op.now cells.old }
     ensures { (bits : ℕ) → RanCold machine.now bits op.now cells.old cells.new }
@@ -22,6 +23,7 @@ pub(crate) fn run_cold_on(machine: &Machine, op: &Op, cells: &mut [Cell])
 }
 
 // What the resources hold is cold.
+#[inline(always)]
 fn cool_all_at(machine: &Machine, touched: &[Res], cells: &mut [Cell])
     requires { AreWithin machine.now (length cells.old) touched.now }
     ensures { cells.new ≡ adjust_all machine.now touched.now (map (λ r. chilled) touched.now) cells.old }

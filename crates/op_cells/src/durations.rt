@@ -11,6 +11,7 @@ use qccd_machine::Machine;
 use time_heat::{Work, duration};
 
 /// How long the operation takes, in microseconds.
+#[inline(always)]
 pub(crate) fn time_of(machine: &Machine, op: &Op) -> u64
     requires { IsLegalSomewhere machine.now op.now }
     ensures value { result ≡ duration machine.now op.now }

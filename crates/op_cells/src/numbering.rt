@@ -18,6 +18,7 @@ pub fn count_of(machine: &Machine, bits: u16) -> usize
 }
 
 /// The number of a resource: traps come first, then segments, junctions and bits.
+#[inline(always)]
 pub fn index_of(machine: &Machine, res: Res) -> usize
     ensures { result ≡ index_of machine.now res }
 {

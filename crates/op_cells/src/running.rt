@@ -23,6 +23,7 @@ use qccd_base::Res;
 use qccd_machine::Machine;
 
 /// Does the operation, as number `k`, on the cells of all resources.
+#[inline(always)]
 pub(crate) fn run_on(machine: &Machine, k: u32, op: &Op, cells: &mut [Cell])
     requires { MayRun machine.now op.now cells.old }
     ensures { (bits : ℕ) → Ran machine.now bits k op.now cells.old cells.new }
@@ -45,6 +46,7 @@ pub(crate) fn run_on(machine: &Machine, k: u32, op: &Op, cells: &mut [Cell])
 }
 
 // The greatest time at which one of the resources is free.
+#[inline(always)]
 fn start_at(machine: &Machine, touched: &[Res], cells: &[Cell]) -> u64
     requires { AreWithin machine.now (length cells.now) touched.now }
     ensures { result ≡ greatest (map (clock_at machine.now cells.now) touched.now) }
@@ -58,6 +60,8 @@ fn start_at(machine: &Machine, touched: &[Res], cells: &[Cell]) -> u64
 }
 
 /// What the resources hold after the operation. One that touches more than two changes nothing.
+// Most operations are gates, which change nothing: a call would cost more than this.
+#[inline(always)]
 pub(crate) fn act_at(machine: &Machine, op: &Op, cells: &mut [Cell])
     requires within { AreWithin machine.now (length cells.old) (touches op.now) }
     requires in_turn { AreInTurn machine.now (touches op.now) }
@@ -76,6 +80,7 @@ pub(crate) fn act_at(machine: &Machine, op: &Op, cells: &mut [Cell])
 }
 
 // What one resource holds after an operation that touches it alone.
+#[inline(always)]
 fn act_at_one(machine: &Machine, op: &Op, cells: &mut [Cell], at: usize)
     requires within { at < length cells.old }
     requires one { length (touches op.now) ≡ 1 }
@@ -87,6 +92,7 @@ fn act_at_one(machine: &Machine, op: &Op, cells: &mut [Cell], at: usize)
 }
 
 // What two resources hold after an operation that touches them alone.
+#[inline(never)]
 fn act_at_two(machine: &Machine, op: &Op, cells: &mut [Cell], low: usize, high: usize)
     requires order { low < high }
     requires within { high < length cells.old }
@@ -103,6 +109,7 @@ fn act_at_two(machine: &Machine, op: &Op, cells: &mut [Cell], low: usize, high: 
 }
 
 // The resources are free at the finish.
+#[inline(always)]
 fn free_all_at(machine: &Machine, touched: &[Res], cells: &mut [Cell], finish: u64)
     requires { AreWithin machine.now (length cells.old) touched.now }
     ensures { cells.new ≡ adjust_all machine.now touched.now (map (λ r. free_from finish) touched.now) cells.old }
@@ -114,6 +121,7 @@ fn free_all_at(machine: &Machine, touched: &[Res], cells: &mut [Cell], finish: u
 }
 
 // The first of the resources notes what was done.
+#[inline(always)]
 fn note_first_at(machine: &Machine, touched: &[Res], cells: &mut [Cell], done: Done)
     requires within { AreWithin machine.now (length cells.old) touched.now }
     requires room { HasFirstRoom machine.now touched.now cells.old }
