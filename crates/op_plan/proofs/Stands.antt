@@ -2,7 +2,7 @@
 use Rattle.std.proofs.Common.{arith, ◌≡◌, ℕ, ◌<◌, ◌≤◌, ◌==◌, inl, inr, cond, Bool, true, false, List, length, get_or, refl, sym, ◌∙◌, ap, subst, Option, Some, None, option_map, position, slice_get, count_by}
 use Rattle.std.specs.List.{position_or_len}
 use Rattle.std.proofs.lemmas.List.Sums.{fails_before_first}
-use Rattle.std.proofs.lemmas.Bool.{and_parts, cases_lt, eqb-true, false≢true, lt-ltb}
+use Rattle.std.proofs.lemmas.Bool.{and_parts, cases_lt, eq-eqb, eqb-true, false≢true, lt-ltb}
 use Rattle.std.proofs.lemmas.List.Quantifiers.{position-Some}
 use Rattle.std.proofs.lemmas.Option.{same_Some, none-some, get_or_from_slice_get, slice_get-get_or, slice_get_within}
 use Rattle.qccd_base.specs.Names.{trap}
@@ -38,6 +38,15 @@ first_is {X} p xs k x at passes only = by_found (position p xs) refl
         let found = position-Some p xs i x some in
         some ∙ ap (λ (n : ℕ). Some n) (only i (get_or xs i x) (slice_get-get_or xs i x found.0) found.1)
 
+-- a qubit that stands at this position, and once at most, is found there
+pub seated : (q : Qubit) (es : List Entry) (k : ℕ) (d : Entry) → k < length es → (get_or es k d).qubit.0 ≡ q.0
+    → ((i j : ℕ) (x y : Entry) → slice_get es i ≡ Some x → slice_get es j ≡ Some y → (x.qubit.0 == q.0) ≡ true → (y.qubit.0 == q.0) ≡ true → i ≡ j) → Some k ≡ position (λ (e : Entry). e.qubit.0 == q.0) es
+seated q es k d within is once =
+    let own : Entry = get_or es k d in
+    let here : slice_get es k ≡ Some own = slice_get-get_or es k d within in
+    let passes : (own.qubit.0 == q.0) ≡ true = eq-eqb own.qubit.0 q.0 is in
+    sym (first_is (λ (e : Entry). e.qubit.0 == q.0) es k own here passes (λ j y other found. once j k y own other here found passes))
+
 -- the place of a qubit that has a trap
 place_is : (s : State) (q : Qubit) (w : Stand) (t : TrapId) → carrier s q ≡ Some w → home s q ≡ Some t → (k : ℕ) × (w.place ≡ InTrap t.0 k)
 place_is s q w t is at = by_place w.place refl (sym (ap home_in is) ∙ sym (home_is s q) ∙ at)
@@ -53,6 +62,7 @@ pub record Found (s : State) (q : Qubit) (t : TrapId) : Type 0 where
   pub place : place_of s q ≡ Some (InTrap t.0 index)
   pub within : index < ions_in s t.0
   pub first : position (λ (e : Entry). e.qubit.0 == q.0) (chain s t.0) ≡ Some index
+  pub only : (j : ℕ) (y : Entry) → slice_get (chain s t.0) j ≡ Some y → (y.qubit.0 == q.0) ≡ true → j ≡ index
 
 pub found_in : (m : MachineData) (s : State) (q : Qubit) (t : TrapId) → IsSafe m s → q.0 < length s.ions → home s q ≡ Some t → Found s q t
 found_in m s q t safe below at =
@@ -64,11 +74,12 @@ found_in m s q t safe below at =
       index = k;
       place = ap (option_map (λ (v : Stand). v.place)) who.4 ∙ ap (λ (x : IonPlace). Some x) here.1;
       within = subst (λ (n : ℕ). k < n) (length-chain m s t.0 safe) (slice_get_within (chain s t.0) k (entry_of (who.0, who.1)) stands);
-      first = first_is (λ (e : Entry). e.qubit.0 == q.0) (chain s t.0) k (entry_of (who.0, who.1)) stands who.3 (λ j y other passes. only who.0 who.1 k here.1 who.2 who.3 j y other passes);
+      first = first_is (λ (e : Entry). e.qubit.0 == q.0) (chain s t.0) k (entry_of (who.0, who.1)) stands who.3 (λ j y other passes. one_place who.0 who.1 k here.1 who.2 who.3 j y other passes);
+      only = λ j y other passes. one_place who.0 who.1 k here.1 who.2 who.3 j y other passes;
     }
   where
-    only : (i : ℕ) (w : Stand) (k : ℕ) → w.place ≡ InTrap t.0 k → slice_get s.ions i ≡ Some w → (w.qubit.0 == q.0) ≡ true → (j : ℕ) (y : Entry) → slice_get (chain s t.0) j ≡ Some y → (y.qubit.0 == q.0) ≡ true → j ≡ k
-    only i w k place is carries j y other passes =
+    one_place : (i : ℕ) (w : Stand) (k : ℕ) → w.place ≡ InTrap t.0 k → slice_get s.ions i ≡ Some w → (w.qubit.0 == q.0) ≡ true → (j : ℕ) (y : Entry) → slice_get (chain s t.0) j ≡ Some y → (y.qubit.0 == q.0) ≡ true → j ≡ k
+    one_place i w k place is carries j y other passes =
         let found = chain_stand m s t.0 j y safe other in
         let one : count_by (λ (v : Stand). v.qubit.0 == q.0) s.ions ≤ 1 = omega (arith, safe.qubits q.0 below) in
         let mine = seek_unique (λ (v : Stand). v.qubit.0 == q.0) s.ions i w one is carries in

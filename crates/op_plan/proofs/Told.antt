@@ -1,5 +1,5 @@
 -- What a plan tells of its places.
-use Rattle.std.proofs.Common.{arith, ◌≡◌, ℕ, zero, suc, ◌<◌, ◌≤◌, ◌==◌, List, [], ◌∷◌, length, get_or, sym, ◌∙◌, ap, subst, Option, Some, None, position}
+use Rattle.std.proofs.Common.{arith, ◌≡◌, ℕ, zero, suc, ◌<◌, ◌≤◌, ◌==◌, List, [], ◌∷◌, length, get_or, sym, ◌∙◌, ap, subst, Option, Some, None, position, slice_get, true}
 use Rattle.std.proofs.lemmas.Option.{same_Some, slice_get-get_or}
 use Rattle.qccd_base.specs.declared.names.Qubit.{Qubit}
 use Rattle.qccd_base.specs.declared.names.TrapId.{TrapId}
@@ -61,6 +61,13 @@ pub told_by : (p : PlanData) (cells : List Cell) (traps : List (Option TrapId)) 
     → es ≡ chain (state_of p) t.0 → o ≡ position (λ (e : Entry). e.qubit.0 == q.0) es → Told p q t o
 told_by p cells traps q t es o keeps below at read is =
     told p cells traps q t o keeps below at (is ∙ ap (position (λ (e : Entry). e.qubit.0 == q.0)) read)
+
+-- it stands there once at most
+pub once_there : (p : PlanData) (cells : List Cell) (traps : List (Option TrapId)) (q : Qubit) (t : TrapId) (es : List Entry) → Keeps p cells traps → q.0 < p.qubits → home (state_of p) q ≡ Some t → es ≡ chain (state_of p) t.0
+    → (j k : ℕ) (x y : Entry) → slice_get es j ≡ Some x → slice_get es k ≡ Some y → (x.qubit.0 == q.0) ≡ true → (y.qubit.0 == q.0) ≡ true → j ≡ k
+once_there p cells traps q t es keeps below at read j k x y at_j at_k first second =
+    let found = found_there p q t keeps.plan below at in
+    found.only j x (ap (λ (xs : List Entry). slice_get xs j) (sym read) ∙ at_j) first ∙ sym (found.only k y (ap (λ (xs : List Entry). slice_get xs k) (sym read) ∙ at_k) second)
 
 pub no_trap : (p : PlanData) (q : Qubit) → home (state_of p) q ≡ None → None ≡ stands_in (state_of p) q
 no_trap p q none = sym (nowhere (state_of p) q none)

@@ -19,6 +19,7 @@ use qccd_base::{End, Qubit, Res, TrapId};
 use qccd_machine::Machine;
 
 /// Does a legal operation on what the resources hold, and notes where the qubit is that it moves.
+#[inline(always)]
 pub(crate) fn follow(machine: &Machine, op: &Op, cells: &mut Cells, homes: &mut Vec<Option<TrapId>>)
     requires { (p : PlanData) × Keeps p cells.old homes.old.items × Agrees machine.now p × (length p.ops < 4194304) × (why machine.now (state_of p) op.now ≡ None) }
     ensures { (p : PlanData) → Keeps p cells.old homes.old.items → Agrees machine.now p → length p.ops < 4194304 → why machine.now (state_of p) op.now ≡ None → Keeps (with_ops p (op.now ∷ [])) cells.new homes.new.items }
@@ -31,6 +32,7 @@ pub(crate) fn follow(machine: &Machine, op: &Op, cells: &mut Cells, homes: &mut 
 
 // The qubit that the operation takes out of its trap or brings into one, with the trap in which it then
 // is.
+#[inline(always)]
 fn mover(op: &Op, cells: &Cells) -> Option<(Qubit, Option<TrapId>)>
     requires { (m : MachineData) × (s : State) × Shows m s cells.now × AllByRecursion (IsThere m s.bits) (touches op.now) }
     ensures { (m : MachineData) (s : State) → Shows m s cells.now → AllByRecursion (IsThere m s.bits) (touches op.now) → result ≡ mover op.now (map (content s) (touches op.now)) }

@@ -114,6 +114,29 @@ pub(crate) fn opening_homes(
     Ok(homes)
 }
 
+/// For each qubit the position at which it stands at the opening, as a guess where it stands later.
+pub(crate) fn opening_seats(
+    alloc: Global,
+    qubits: u16,
+    chains: &[IonList],
+) -> Result<Vec<usize>, NoMemory> {
+    let mut seats = vec![in alloc; 0usize; usize::from(qubits)]?;
+    for chain in chains {
+        seat(&mut seats, chain.as_slice());
+    }
+    Ok(seats)
+}
+
+// The ions carry the qubits of their numbers to their positions.
+fn seat(seats: &mut Vec<usize>, ions: &[Ion]) {
+    for (at, ion) in ions.iter().enumerate() {
+        let qubit = usize::from(ion.0);
+        if qubit < seats.len() {
+            seats[qubit] = at;
+        }
+    }
+}
+
 // The ions carry the qubits of their numbers into the trap.
 fn house(homes: &mut Vec<Option<TrapId>>, trap: TrapId, ions: &[Ion])
     requires { All (λ x. x.0 < length homes.old.items) ions.now }

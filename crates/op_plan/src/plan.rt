@@ -5,12 +5,14 @@ ghost use Rattle.std.specs.Result.{result_err};
 ghost use Rattle.op_table.specs.Contents.{chain};
 ghost use Rattle.op_table.specs.Start.{IsStart};
 ghost use Rattle.op_table.specs.Step.{why};
-ghost use Rattle.op_plan.specs.Place.{stands_in};
+ghost use Rattle.op_plan.specs.Place.{home, stands_in};
 ghost use Rattle.op_plan.specs.Plan.{begun, state_of, with_ops, Agrees, IsPlan};
 
 use crate::moving::follow;
-use crate::opening::{capacities_of, copied, opening_cells, opening_homes, segments_of};
-use crate::reading::{chain_at, place_at};
+use crate::opening::{
+    capacities_of, copied, opening_cells, opening_homes, opening_seats, segments_of,
+};
+use crate::reading::{chain_at, home_at, place_at, seat_of};
 use op_cells::{Cells, legal};
 use op_table::{Entry, Op, Why};
 use qccd_base::{IonList, NoMemory, Qubit, TrapId};
@@ -33,6 +35,8 @@ pub struct Plan {
     cells: Cells,
     // for each qubit the trap in which it stands
     homes: Vec<Option<TrapId>>,
+    // for each qubit the position at which it is looked for first
+    seats: Vec<usize>,
 }
 
 impl Model for Plan {
@@ -58,12 +62,29 @@ impl Plan {
         requires { IsStart machine.now qubits chains.now }
         ensures { IfOk result (λ plan. plan ≡ begun machine.now qubits bits chains.now) }
     {
+        Plan::with_room(alloc, machine, qubits, bits, chains, 0)
+    }
+
+    /// The same plan, begun with room for so many operations.
+    pub fn with_room(
+        alloc: Global,
+        machine: &Machine,
+        qubits: u16,
+        bits: u16,
+        chains: &[IonList],
+        room: usize,
+    ) -> Result<Plan, NoMemory>
+        requires { IsStart machine.now qubits chains.now }
+        ensures { IfOk result (λ plan. plan ≡ begun machine.now qubits bits chains.now) }
+    {
         let _traps = machine.traps();
         let capacities = capacities_of(alloc, machine)?;
         let segments = segments_of(alloc, machine)?;
         let start = copied(alloc, chains)?;
         let cells = opening_cells(alloc, machine, bits, chains)?;
         let homes = opening_homes(alloc, machine, qubits, chains)?;
+        let seats = opening_seats(alloc, qubits, chains)?;
+        let ops = Vec::with_capacity(alloc, room)?;
         Ok(Plan {
             capacities,
             junctions: machine.junctions(),
@@ -71,13 +92,15 @@ impl Plan {
             qubits,
             bits,
             start,
-            ops: Vec::new(alloc),
+            ops,
             cells,
             homes,
+            seats,
         })
     }
 
     /// Appends a legal operation, with what it leaves. Where memory runs out the plan stays as it was.
+    #[inline(always)]
     pub fn emit(&mut self, machine: &Machine, op: Op) -> Result<(), NoMemory>
         requires machine { Agrees machine.now self.old }
         requires few { length self.old.ops < 4194304 }
@@ -124,11 +147,20 @@ impl Plan {
         chain_at(&self.cells, t)
     }
 
+    /// The trap in which the qubit stands, or `None` while its ion is in no trap. No chain is searched.
+    pub fn home_of(&self, q: Qubit) -> Option<TrapId>
+        requires { q.0 < self.now.qubits }
+        ensures { result ≡ home (state_of self.now) q }
+    {
+        home_at(&self.cells, self.homes.as_slice(), q)
+    }
+
     /// The trap in which the qubit stands and its position there, or `None` while its ion is in no trap.
     pub fn place_of(&self, q: Qubit) -> Option<(TrapId, u8)>
         requires { q.0 < self.now.qubits }
         ensures { result ≡ stands_in (state_of self.now) q }
     {
-        place_at(&self.cells, self.homes.as_slice(), q)
+        let seat = seat_of(self.seats.as_slice(), q);
+        place_at(&self.cells, self.homes.as_slice(), seat, q)
     }
 }

@@ -1,6 +1,6 @@
 use Rattle.std.proofs.Common.{arith, Some, None, sym, ◌∙◌}
 use Rattle.std.proofs.lemmas.Option.{none-some, same_Some}
-use Rattle.op_plan.proofs.Told.{home_read, no_trap, place_told, told_by, trap_there}
+use Rattle.op_plan.proofs.Told.{home_read, no_trap, once_there, place_told, told_by, trap_there}
 use Rattle.op_plan.proofs.reading.place_at.Goals as goal
 
 pub chain_at-requires : goal.chain_at-requires
@@ -8,6 +8,13 @@ chain_at-requires c =
     let r = c.requires in
     let home = home_read r.0 c.args.cells.now c.args.homes.now c.args.qubit c.from.result (Some c.in-Some.trap) None r.1 r.2 c.from.ensures c.in-Some.is in
     (r.0, c.args.homes.now, r.1, trap_there r.0 c.args.qubit c.in-Some.trap r.1.plan r.2 home)
+
+pub position_in-requires : goal.position_in-requires
+position_in-requires c =
+    let r = c.requires in
+    let home = home_read r.0 c.args.cells.now c.args.homes.now c.args.qubit c.from.result (Some c.in-Some.trap) None r.1 r.2 c.from.ensures c.in-Some.is in
+    let there = trap_there r.0 c.args.qubit c.in-Some.trap r.1.plan r.2 home in
+    record { once = once_there r.0 c.args.cells.now c.args.homes.now c.args.qubit c.in-Some.trap c.chain_at.result.now r.1 r.2 home (c.chain_at.ensures r.0 c.args.homes.now r.1 there) }
 
 pub overflow_cast-result : goal.overflow_cast-result
 overflow_cast-result c =
