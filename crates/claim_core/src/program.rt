@@ -6,8 +6,10 @@ ghost use Rattle.qccd_machine.specs.Machine.{IsValid};
 ghost use Rattle.op_table.specs.declared.kinds.OpKind.{OpKind};
 ghost use Rattle.op_table.specs.Touch.{touches, nth};
 ghost use Rattle.claim_core.specs.AllCells.{AtStep};
+ghost use Rattle.claim_core.specs.CellOfRun.{firsts};
 ghost use Rattle.claim_core.specs.Legal.{IsLegalProgram};
 ghost use Rattle.claim_core.specs.Program.{program_data};
+ghost use Rattle.claim_core.specs.Turns.{Counts};
 
 use crate::first_cells::first_cells;
 use crate::turn_table::{TurnTable, turn_table};
@@ -33,13 +35,14 @@ impl Model for Program {
     ghost use Rattle.std.specs.Prelude.{length};
     ghost use Rattle.claim_core.specs.Legal.{IsLegalProgram};
     ghost use Rattle.claim_core.specs.Program.{ProgramData, program_data};
-    ghost use Rattle.claim_core.specs.Turns.{HasTurns};
+    ghost use Rattle.claim_core.specs.CellOfRun.{firsts};
+    ghost use Rattle.claim_core.specs.Turns.{Counts, HasTurns};
 
     ghost Value = { ProgramData };
 
     ghost view = { λ a. program_data a.machine a.qubits a.bits a.start.items a.ops.items };
 
-    ghost invariant = { λ a. IsLegalProgram (program_data a.machine a.qubits a.bits a.start.items a.ops.items) × HasTurns a.ops.items (length a.ops.items) a.table.starts.items a.table.turns.items };
+    ghost invariant = { λ a. IsLegalProgram (program_data a.machine a.qubits a.bits a.start.items a.ops.items) × HasTurns a.ops.items (length a.ops.items) a.table.starts.items a.table.turns.items × Counts a.machine a.bits (firsts a.ops.items) a.table.rooms.items };
 }
 
 impl Program {
@@ -112,6 +115,13 @@ impl Program {
     {
         let from = self.table.starts[k as usize];
         self.table.turns[from as usize + i]
+    }
+
+    /// Of how many operations each resource is the first.
+    pub(crate) fn rooms(&self) -> &[u32]
+        ensures { Counts self.now.machine self.now.bits (firsts self.now.ops) result.now }
+    {
+        self.table.rooms.as_slice()
     }
 
     /// The machine, the start chains and the operations. It takes no memory.
