@@ -1,6 +1,7 @@
 pub mod Faults
 pub mod Fetch
 pub mod Memory
+pub mod Piece
 pub mod Sends
 pub mod Shelf
 pub mod Sink

@@ -1,0 +1,73 @@
+//! Short pieces of texts.
+
+ghost use Rattle.std.specs.Prelude.{◌≡◌, ◌+◌, ◌≤◌, ◌++◌, [], length, decimal};
+
+use itoa::write_digits;
+use std::marker::Model;
+
+/// How many bytes a piece has room for.
+const SIZE: usize = 128;
+
+/// A short piece of a text, which is put together and then sent in one write. It is written from its
+/// end to its front, as the digits of a number are found: so each goes to its place at once, and how many
+/// they are need not be known before. Clauses see the text so far and the room in front of it.
+#[derive(Drop)]
+pub struct Piece {
+    bytes: [u8; SIZE],
+    // Where the text begins. It ends where the bytes end.
+    at: usize,
+}
+
+impl Model for Piece {
+    ghost use Rattle.std.specs.Prelude.{◌≤◌, drop};
+    ghost use Rattle.qccd_io.specs.Piece.{PieceData};
+
+    ghost Value = { PieceData };
+
+    ghost view = { λ p. record { text = drop p.at p.bytes; room = p.at } };
+
+    ghost invariant = { λ p. p.at ≤ 128 };
+}
+
+impl Piece {
+    /// A piece with nothing in it.
+    #[inline]
+    pub fn new() -> Piece
+        ensures { result ≡ record { text = []; room = 128 } }
+    {
+        Piece {
+            bytes: [0; SIZE],
+            at: SIZE,
+        }
+    }
+
+    /// Puts the text in front.
+    #[inline]
+    pub fn put(&mut self, text: &[u8])
+        requires { length text.now ≤ self.old.room }
+        ensures text { self.new.text ≡ text.now ++ self.old.text }
+        ensures room { self.new.room + length text.now ≡ self.old.room }
+    {
+        let end = self.at;
+        self.at -= text.len();
+        self.bytes[self.at..end].copy_from_slice(text);
+    }
+
+    /// Puts the number's decimal text in front, which has twenty digits at most.
+    #[inline]
+    pub fn put_number(&mut self, n: u64)
+        requires { 20 ≤ self.old.room }
+        ensures text { self.new.text ≡ decimal n ++ self.old.text }
+        ensures room { self.old.room ≤ self.new.room + 20 }
+    {
+        self.at = write_digits(n, &mut self.bytes, self.at);
+    }
+
+    /// The text so far.
+    #[inline]
+    pub fn as_slice(&self) -> &[u8]
+        ensures { result.now ≡ self.now.text }
+    {
+        &self.bytes[self.at..]
+    }
+}
