@@ -63,6 +63,17 @@ impl Piece {
         self.at = write_digits(n, &mut self.bytes, self.at);
     }
 
+    /// Puts the label and the number's decimal text behind it in front.
+    #[inline]
+    pub fn put_labelled(&mut self, label: &[u8], n: u64)
+        requires { length label.now + 20 ≤ self.old.room }
+        ensures text { self.new.text ≡ label.now ++ (decimal n ++ self.old.text) }
+        ensures room { self.old.room ≤ self.new.room + (length label.now + 20) }
+    {
+        self.put_number(n);
+        self.put(label);
+    }
+
     /// The text so far.
     #[inline]
     pub fn as_slice(&self) -> &[u8]

@@ -4,15 +4,17 @@ ghost use Rattle.std.specs.Prelude.{◌++◌, flat_map, decimal};
 ghost use Rattle.qccd_io.specs.Sends.{Sends};
 
 use crate::failed::Failed;
+use crate::piece::Piece;
 use crate::sink::{Sink, send};
-use qccd_base::number_text;
 
 /// Appends the number's decimal text. Where it fails, a prefix of it was appended and the count of
 /// faults rose. It takes no memory.
 pub fn send_number<S: Sink>(sink: &mut S, n: u64) -> Result<(), Failed>
     ensures { Sends S.taken S.faults S.behind sink.old sink.new result (decimal n) }
 {
-    send(sink, number_text(n).as_bytes())
+    let mut piece = Piece::new();
+    piece.put_number(n);
+    send(sink, piece.as_slice())
 }
 
 /// Appends the label and then the number's decimal text, with the same promises.

@@ -1,14 +1,14 @@
 //! Operations, sent as their texts.
 
-ghost use Rattle.std.specs.Prelude.{◌≡◌, ◌∷◌, ◌++◌, codes, flat_map, length, zip, decimal};
+ghost use Rattle.std.specs.Prelude.{◌≡◌, ◌+◌, ◌≤◌, ◌∷◌, ◌++◌, codes, flat_map, length, zip, decimal};
 ghost use Rattle.qccd_io.specs.Sends.{Sends};
 ghost use Rattle.op_table.specs.declared.kinds.OpKind.TheVariants as op;
 ghost use Rattle.transport_asm.specs.OpText.{op_text, item_text, end_text, angles_text, operand_text, trap_text, qubit_text, bit_text, next_word};
 
 use op_table::{Op, OpKind};
-use qccd_base::{Bit, End, JuncId, Qubit, SegId, TrapId, number_text};
+use qccd_base::{Bit, End, JuncId, Qubit, SegId, TrapId};
 use qccd_circuit::{Angle, Item};
-use qccd_io::{Failed, Sink, send, send_all, send_labelled};
+use qccd_io::{Failed, Piece, Sink, send, send_all, send_labelled};
 
 // The word of an end.
 fn end_word(end: End) -> &'static [u8]
@@ -23,94 +23,117 @@ fn end_word(end: End) -> &'static [u8]
 fn send_split<S: Sink>(sink: &mut S, trap: TrapId, end: End, seg: SegId) -> Result<(), Failed>
     ensures { Sends S.taken S.faults S.behind sink.old sink.new result (op_text (op.Split trap end seg)) }
 {
-    let trap = number_text(u64::from(trap.0));
-    let seg = number_text(u64::from(seg.0));
-    send_all(
-        sink,
-        &[
-            b"split T",
-            trap.as_bytes(),
-            b" ",
-            end_word(end),
-            b" S",
-            seg.as_bytes(),
-        ],
-    )
+    let mut piece = Piece::new();
+    piece.put_labelled(b" S", u64::from(seg.0));
+    piece.put(end_word(end));
+    piece.put(b" ");
+    piece.put_labelled(b"split T", u64::from(trap.0));
+    send(sink, piece.as_slice())
 }
 
 fn send_move<S: Sink>(sink: &mut S, seg: SegId) -> Result<(), Failed>
     ensures { Sends S.taken S.faults S.behind sink.old sink.new result (op_text (op.Move seg)) }
 {
-    send_labelled(sink, b"move S", u64::from(seg.0))
+    let mut piece = Piece::new();
+    piece.put_labelled(b"move S", u64::from(seg.0));
+    send(sink, piece.as_slice())
 }
 
 fn send_enter<S: Sink>(sink: &mut S, seg: SegId, junc: JuncId) -> Result<(), Failed>
     ensures { Sends S.taken S.faults S.behind sink.old sink.new result (op_text (op.Enter seg junc)) }
 {
-    let seg = number_text(u64::from(seg.0));
-    let junc = number_text(u64::from(junc.0));
-    send_all(sink, &[b"enter S", seg.as_bytes(), b" J", junc.as_bytes()])
+    let mut piece = Piece::new();
+    piece.put_labelled(b" J", u64::from(junc.0));
+    piece.put_labelled(b"enter S", u64::from(seg.0));
+    send(sink, piece.as_slice())
 }
 
 fn send_leave<S: Sink>(sink: &mut S, junc: JuncId, seg: SegId) -> Result<(), Failed>
     ensures { Sends S.taken S.faults S.behind sink.old sink.new result (op_text (op.Leave junc seg)) }
 {
-    let junc = number_text(u64::from(junc.0));
-    let seg = number_text(u64::from(seg.0));
-    send_all(sink, &[b"leave J", junc.as_bytes(), b" S", seg.as_bytes()])
+    let mut piece = Piece::new();
+    piece.put_labelled(b" S", u64::from(seg.0));
+    piece.put_labelled(b"leave J", u64::from(junc.0));
+    send(sink, piece.as_slice())
 }
 
 fn send_merge<S: Sink>(sink: &mut S, seg: SegId, trap: TrapId, end: End) -> Result<(), Failed>
     ensures { Sends S.taken S.faults S.behind sink.old sink.new result (op_text (op.Merge seg trap end)) }
 {
-    let seg = number_text(u64::from(seg.0));
-    let trap = number_text(u64::from(trap.0));
-    send_all(
-        sink,
-        &[
-            b"merge S",
-            seg.as_bytes(),
-            b" T",
-            trap.as_bytes(),
-            b" ",
-            end_word(end),
-        ],
-    )
+    let mut piece = Piece::new();
+    piece.put(end_word(end));
+    piece.put(b" ");
+    piece.put_labelled(b" T", u64::from(trap.0));
+    piece.put_labelled(b"merge S", u64::from(seg.0));
+    send(sink, piece.as_slice())
 }
 
 fn send_rot<S: Sink>(sink: &mut S, trap: TrapId, at: u8) -> Result<(), Failed>
     ensures { Sends S.taken S.faults S.behind sink.old sink.new result (op_text (op.Rot trap at)) }
 {
-    let trap = number_text(u64::from(trap.0));
-    let at = number_text(u64::from(at));
-    send_all(sink, &[b"rot T", trap.as_bytes(), b" ", at.as_bytes()])
+    let mut piece = Piece::new();
+    piece.put_labelled(b" ", u64::from(at));
+    piece.put_labelled(b"rot T", u64::from(trap.0));
+    send(sink, piece.as_slice())
 }
 
 fn send_gswap<S: Sink>(sink: &mut S, trap: TrapId, low: u8, high: u8) -> Result<(), Failed>
     ensures { Sends S.taken S.faults S.behind sink.old sink.new result (op_text (op.GSwap trap low high)) }
 {
-    let trap = number_text(u64::from(trap.0));
-    let low = number_text(u64::from(low));
-    let high = number_text(u64::from(high));
-    send_all(
-        sink,
-        &[
-            b"gswap T",
-            trap.as_bytes(),
-            b" ",
-            low.as_bytes(),
-            b" ",
-            high.as_bytes(),
-        ],
-    )
+    let mut piece = Piece::new();
+    piece.put_labelled(b" ", u64::from(high));
+    piece.put_labelled(b" ", u64::from(low));
+    piece.put_labelled(b"gswap T", u64::from(trap.0));
+    send(sink, piece.as_slice())
 }
 
 fn send_operand<S: Sink>(sink: &mut S, qubit: Qubit, at: u8) -> Result<(), Failed>
     ensures { Sends S.taken S.faults S.behind sink.old sink.new result (next_word (operand_text (qubit, at))) }
 {
-    let qubit = number_text(u64::from(qubit.0));
-    let at = number_text(u64::from(at));
-    send_all(sink, &[b" q", qubit.as_bytes(), b"@", at.as_bytes()])
+    let mut piece = Piece::new();
+    put_operand(&mut piece, qubit, at);
+    send(sink, piece.as_slice())
+}
+
+// A qubit with its position, in front of a piece.
+fn put_operand(piece: &mut Piece, qubit: Qubit, at: u8)
+    requires { 43 ≤ piece.old.room }
+    ensures text { piece.new.text ≡ next_word (operand_text (qubit, at)) ++ piece.old.text }
+    ensures room { piece.old.room ≤ piece.new.room + 43 }
+{
+    piece.put_labelled(b"@", u64::from(at));
+    piece.put_labelled(b" q", u64::from(qubit.0));
+}
+
+// A trap and the qubit of an item in it.
+fn send_place_of_one<S: Sink>(
+    sink: &mut S,
+    trap: TrapId,
+    qubit: Qubit,
+    at: u8,
+) -> Result<(), Failed>
+    ensures { Sends S.taken S.faults S.behind sink.old sink.new result (next_word (trap_text trap) ++ next_word (operand_text (qubit, at))) }
+{
+    let mut piece = Piece::new();
+    put_operand(&mut piece, qubit, at);
+    piece.put_labelled(b" T", u64::from(trap.0));
+    send(sink, piece.as_slice())
+}
+
+// A trap and the two qubits of an item in it.
+fn send_place_of_two<S: Sink>(
+    sink: &mut S,
+    trap: TrapId,
+    first: (Qubit, u8),
+    second: (Qubit, u8),
+) -> Result<(), Failed>
+    ensures { Sends S.taken S.faults S.behind sink.old sink.new result (next_word (trap_text trap) ++ next_word (operand_text first) ++ next_word (operand_text second)) }
+{
+    let mut piece = Piece::new();
+    put_operand(&mut piece, second.0, second.1);
+    put_operand(&mut piece, first.0, first.1);
+    piece.put_labelled(b" T", u64::from(trap.0));
+    send(sink, piece.as_slice())
 }
 
 // The qubits of an item, each with its position.

@@ -1,4 +1,4 @@
-use Rattle.std.proofs.Common.{◌≡◌, ◌≤◌, ◌^◌, ◌<◌, ℕ, length, decimal, ap, arith}
+use Rattle.std.proofs.Common.{◌≤◌, ◌^◌, ◌<◌, ℕ, length, decimal, ap, arith}
 use Rattle.std.proofs.lemmas.Fmt.{length-decimal-le}
 use Rattle.qccd_io.specs.Piece.{PieceData}
 use Rattle.qccd_io.proofs.piece.Piece.put_number.Goals as goal
