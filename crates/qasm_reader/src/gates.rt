@@ -1,8 +1,8 @@
 //! The gates that are known by name.
 
-ghost use Rattle.std.specs.Prelude.{◌≡◌, ◌==◌, map, option_map};
+ghost use Rattle.std.specs.Prelude.{◌≡◌, ◌==◌, map, option_map, true};
 ghost use Rattle.qasm_lex.specs.Runs.{begins};
-ghost use Rattle.qasm_reader.specs.Gates.{gate_in, gate_of, included};
+ghost use Rattle.qasm_reader.specs.Gates.{gate_in, gate_of};
 ghost use Rattle.qasm_reader.specs.Named.{row_gate, shape};
 
 use crate::words::same;
@@ -17,11 +17,12 @@ pub(crate) struct KnownGate {
     pub(crate) qubits: u8,
 }
 
-// The gates that every text may use: name, angles, qubits.
-const ALWAYS: [(&[u8], u8, u8); 2] = [(b"U", 3, 1), (b"CX", 0, 2)];
+// The gates that a text may use before the include: name, angles, qubits.
+const BEFORE: [(&[u8], u8, u8); 2] = [(b"U", 3, 1), (b"CX", 0, 2)];
 
-// Of the gates that a text may use after the include those of one letter: name, angles, qubits.
-const SHORT: [(&[u8], u8, u8); 8] = [
+// Of the gates that a text may use after the include those of one letter.
+const SHORT: [(&[u8], u8, u8); 9] = [
+    (b"U", 3, 1),
     (b"x", 0, 1),
     (b"y", 0, 1),
     (b"z", 0, 1),
@@ -51,7 +52,8 @@ const WITH_C: [(&[u8], u8, u8); 14] = [
 ];
 
 // The others.
-const OTHERS: [(&[u8], u8, u8); 15] = [
+const OTHERS: [(&[u8], u8, u8); 16] = [
+    (b"CX", 0, 2),
     (b"id", 0, 1),
     (b"sdg", 0, 1),
     (b"tdg", 0, 1),
@@ -98,9 +100,9 @@ fn begins_with_c(name: &[u8]) -> bool
     }
 }
 
-// The gate of this name among those of the include.
+// The gate of this name after the include. Those of its class alone are looked through.
 fn included_gate(name: &[u8]) -> Option<KnownGate>
-    ensures { option_map shape result ≡ gate_in included name.now }
+    ensures { option_map shape result ≡ gate_of true name.now }
 {
     if name.len() == 1 {
         gate_in(&SHORT, name)
@@ -115,8 +117,9 @@ fn included_gate(name: &[u8]) -> Option<KnownGate>
 pub(crate) fn gate_of(included: bool, name: &[u8]) -> Option<KnownGate>
     ensures { option_map shape result ≡ gate_of included name.now }
 {
-    match gate_in(&ALWAYS, name) {
-        Some(gate) => Some(gate),
-        None => { if included { included_gate(name) } else { None } }
+    if included {
+        included_gate(name)
+    } else {
+        gate_in(&BEFORE, name)
     }
 }

@@ -25,6 +25,7 @@ impl Names {
     }
 
     /// The register that the name stands for.
+    #[inline]
     pub(crate) fn find(&self, name: &[u8]) -> Option<Register>
         ensures { result ≡ stands_for self.now name.now }
     {

@@ -179,6 +179,7 @@ impl AngleList {
     }
 
     /// An equal list.
+    #[inline]
     pub fn copy(&self) -> Result<AngleList, NoMemory>
         ensures { IfOk result (λ angles. angles ≡ self.now) }
     {
