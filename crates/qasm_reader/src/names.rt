@@ -25,7 +25,7 @@ impl Names {
     }
 
     /// The register that the name stands for.
-    #[inline]
+    #[inline(always)]
     pub(crate) fn find(&self, name: &[u8]) -> Option<Register>
         ensures { result ≡ stands_for self.now name.now }
     {

@@ -151,6 +151,7 @@ fn operand_tail<'a>(
 }
 
 /// Takes an operand, and tells the byte of its first token.
+#[inline(always)]
 #[tactic(auto, using(crate::proofs::Leading::leads))]
 pub(crate) fn operand<'a>(
     state: &State,

@@ -79,7 +79,7 @@ pub(crate) fn is(kind: TokenKind, piece: &Piece<'_>) -> bool
 }
 
 /// Whether the token is an identifier.
-#[inline]
+#[inline(always)]
 pub(crate) fn is_identifier(piece: &Piece<'_>) -> bool
     ensures { result ≡ is_identifier (seen piece.now) }
 {

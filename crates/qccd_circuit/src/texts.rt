@@ -179,7 +179,7 @@ impl AngleList {
     }
 
     /// An equal list.
-    #[inline]
+    #[inline(always)]
     pub fn copy(&self) -> Result<AngleList, NoMemory>
         ensures { IfOk result (λ angles. angles ≡ self.now) }
     {
