@@ -78,16 +78,18 @@ pub fn compile(
     ensures { IsCompiled circuit.now machine mode result }
 {
     let _traps = machine.traps();
-    let _items = circuit.items();
+    let items = circuit.items();
     let start = place(alloc, circuit, &machine)?;
     let numbers = order(alloc, circuit)?;
     let routes = Routes::of(alloc, &machine)?;
-    let mut plan = Plan::begin(
+    // An item takes an operation at least, but for a barrier over no qubit.
+    let mut plan = Plan::with_room(
         alloc,
         &machine,
         circuit.qubits(),
         circuit.bits(),
         start.as_slice(),
+        items.len(),
     )?;
     compile_items(
         alloc,
@@ -130,9 +132,10 @@ fn compile_items(
 {
     let _traps = machine.traps();
     let items = circuit.items();
+    let most = MOST_OPS - machine.worst();
     for (done, number) in numbers.iter().enumerate() {
         let ops = plan.ops().len() as u32;
-        if ops > MOST_OPS - machine.worst() {
+        if ops > most {
             return Err(CompileFault::TooLong {
                 done: done as u32,
                 ops,

@@ -6,18 +6,18 @@ use Rattle.compiler.proofs.Answering.{worst-small}
 use Rattle.compiler.proofs.Planning.{compiled_next, fits_next, item_found, long_of, next_may, number_at, order_long, too_long_here}
 use Rattle.compiler.proofs.compiling.compile_items.Goals as goal
 
-pub overflow_sub-worst : goal.overflow_sub-worst
-overflow_sub-worst c = omega (arith, worst-small c.args.machine.now c.traps-traps.ensures.valid, c.worst.ensures)
+pub overflow_sub-most : goal.overflow_sub-most
+overflow_sub-most c = omega (arith, worst-small c.args.machine.now c.traps-traps.ensures.valid, c.worst-most.ensures)
 
 pub overflow_cast-result : goal.overflow_cast-result
 overflow_cast-result c = omega (arith, (number_at c.args.circuit.now c.args.numbers.now c.loop-done.done 0 c.requires.numbers c.loop-done-test.true).2, c.items-items.ensures.is_circuit.few_items)
 
-pub returns-then-ops-worst-clause-refused : goal.returns-then-ops-worst-clause-refused
-returns-then-ops-worst-clause-refused c = (
+pub returns-then-ops-most-clause-refused : goal.returns-then-ops-most-clause-refused
+returns-then-ops-most-clause-refused c = (
   c.requires.slots,
   too_long_here c.args.circuit.now c.args.machine.now c.args.mode c.loop-done.done (length c.ops.result.now) (number_at c.args.circuit.now c.args.numbers.now c.loop-done.done 0 c.requires.numbers c.loop-done-test.true).2
       (sym (ap (λ (ops : List OpKind). length ops) c.ops.ensures.value ∙ long_of c.args.circuit.now c.args.machine.now c.args.mode c.loop-done.done c.loop-done.plan c.loop-done.invariant.plan))
-      (omega (arith, c.if-ops-worst.true, c.worst.ensures)) c.loop-done.invariant.fits,
+      (omega (arith, c.if-ops-most.true, c.worst-most.ensures)) c.loop-done.invariant.fits,
 )
 
 pub bounds-items-number : goal.bounds-items-number
@@ -37,14 +37,14 @@ compile_item-requires-clause-spare c = (next_may c.args.circuit.now c.args.machi
 
 pub compile_item-requires-clause-few : goal.compile_item-requires-clause-few
 compile_item-requires-clause-few c =
-    omega (arith, c.if-ops-worst.false, c.worst.ensures, ap (λ (ops : List OpKind). length ops) c.ops.ensures.value, worst-small c.args.machine.now c.traps-traps.ensures.valid)
+    omega (arith, c.if-ops-most.false, c.worst-most.ensures, ap (λ (ops : List OpKind). length ops) c.ops.ensures.value, worst-small c.args.machine.now c.traps-traps.ensures.valid)
 
 pub loop-done-preserved : goal.loop-done-preserved
 loop-done-preserved c = record {
   plan = compiled_next c.args.circuit.now c.args.machine.now c.args.mode c.loop-done.done _ c.index-items-number.result c.loop-done.plan c.compile_item.new.plan (number_at c.args.circuit.now c.args.numbers.now c.loop-done.done 0 c.requires.numbers c.loop-done-test.true).0
       (item_found c.args.circuit.now.items c.items-items.result.now _ _ c.index-items-number.result c.items-items.ensures.value (number_at c.args.circuit.now c.args.numbers.now c.loop-done.done 0 c.requires.numbers c.loop-done-test.true).1 c.index-items-number.is) c.loop-done.invariant.plan c.in_ok-compile_item.ensures;
   fits = fits_next c.args.circuit.now c.args.machine.now c.args.mode c.loop-done.done (length c.ops.result.now) (sym (ap (λ (ops : List OpKind). length ops) c.ops.ensures.value ∙ long_of c.args.circuit.now c.args.machine.now c.args.mode c.loop-done.done c.loop-done.plan c.loop-done.invariant.plan))
-      (omega (arith, c.if-ops-worst.false, c.worst.ensures)) c.loop-done.invariant.fits;
+      (omega (arith, c.if-ops-most.false, c.worst-most.ensures)) c.loop-done.invariant.fits;
 }
 
 pub returns-clause-done : goal.returns-clause-done
