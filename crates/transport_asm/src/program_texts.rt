@@ -8,8 +8,8 @@ ghost use Rattle.transport_asm.specs.ProgramText.{program_text, counts_text, tra
 use crate::writing::write_op;
 use claim_core::Program;
 use op_table::Op;
-use qccd_base::{Ion, TrapId, number_text};
-use qccd_io::{Failed, Sink, send, send_all, send_labelled};
+use qccd_base::{Ion, TrapId};
+use qccd_io::{Failed, Piece, Sink, send, send_labelled};
 
 fn send_qubit_count<S: Sink>(sink: &mut S, qubits: u16) -> Result<(), Failed>
     ensures { Sends S.taken S.faults S.behind sink.old sink.new result (codes "QCCD 1\nqubits " ++ decimal qubits) }
@@ -35,8 +35,10 @@ fn send_counts<S: Sink>(sink: &mut S, qubits: u16, bits: u16) -> Result<(), Fail
 fn send_traps_head<S: Sink>(sink: &mut S, traps: u8) -> Result<(), Failed>
     ensures { Sends S.taken S.faults S.behind sink.old sink.new result (traps_head traps) }
 {
-    let traps = number_text(u64::from(traps));
-    send_all(sink, &[b"\ntraps ", traps.as_bytes(), b"\n"])
+    let mut piece = Piece::new();
+    piece.put(b"\n");
+    piece.put_labelled(b"\ntraps ", u64::from(traps));
+    send(sink, piece.as_slice())
 }
 
 fn send_ion<S: Sink>(sink: &mut S, ion: Ion) -> Result<(), Failed>
@@ -86,16 +88,20 @@ fn send_chains<S: Sink>(sink: &mut S, program: &Program) -> Result<(), Failed>
 fn send_ops_head<S: Sink>(sink: &mut S, ops: u64) -> Result<(), Failed>
     ensures { Sends S.taken S.faults S.behind sink.old sink.new result (ops_head ops) }
 {
-    let ops = number_text(ops);
-    send_all(sink, &[b"ops ", ops.as_bytes(), b"\n"])
+    let mut piece = Piece::new();
+    piece.put(b"\n");
+    piece.put_labelled(b"ops ", ops);
+    send(sink, piece.as_slice())
 }
 
 // The number of an operation, in front of its text.
 fn send_op_number<S: Sink>(sink: &mut S, number: u64) -> Result<(), Failed>
     ensures { Sends S.taken S.faults S.behind sink.old sink.new result (decimal number ++ codes " ") }
 {
-    let number = number_text(number);
-    send_all(sink, &[number.as_bytes(), b" "])
+    let mut piece = Piece::new();
+    piece.put(b" ");
+    piece.put_number(number);
+    send(sink, piece.as_slice())
 }
 
 // The line of an operation.

@@ -6,9 +6,12 @@ ghost use Rattle.op_table.specs.declared.kinds.OpKind.TheVariants as op;
 ghost use Rattle.transport_asm.specs.OpText.{op_text, item_text, end_text, angles_text, operand_text, trap_text, qubit_text, bit_text, next_word};
 
 use op_table::{Op, OpKind};
-use qccd_base::{Bit, End, JuncId, Qubit, SegId, TrapId};
+use qccd_base::{Bit, End, JuncId, Qubit, SegId, TrapId, number_text};
 use qccd_circuit::{Angle, Item};
 use qccd_io::{Failed, Piece, Sink, send, send_all, send_labelled};
+
+// How many bytes a name has at most.
+const LONGEST_NAME: usize = 64;
 
 // The word of an end.
 fn end_word(end: End) -> &'static [u8]
@@ -93,6 +96,38 @@ fn send_operand<S: Sink>(sink: &mut S, qubit: Qubit, at: u8) -> Result<(), Faile
     let mut piece = Piece::new();
     put_operand(&mut piece, qubit, at);
     send(sink, piece.as_slice())
+}
+
+// The trap of an item and its qubits, each with its position: in one piece where they are one or two.
+fn send_place<S: Sink>(
+    sink: &mut S,
+    trap: TrapId,
+    qubits: &[Qubit],
+    at: &[u8],
+) -> Result<(), Failed>
+    requires { length at.now ≡ length qubits.now }
+    ensures { Sends S.taken S.faults S.behind sink.old sink.new result (next_word (trap_text trap) ++ flat_map (λ operand. next_word (operand_text operand)) (zip qubits.now at.now)) }
+{
+    match (qubits, at) {
+        ([qubit], [place]) => send_place_of_one(sink, trap, *qubit, *place),
+        ([first, second], [place, other]) => {
+            send_place_of_two(sink, trap, (*first, *place), (*second, *other))
+        }
+        _ => send_place_of_many(sink, trap, qubits, at),
+    }
+}
+
+fn send_place_of_many<S: Sink>(
+    sink: &mut S,
+    trap: TrapId,
+    qubits: &[Qubit],
+    at: &[u8],
+) -> Result<(), Failed>
+    requires { length at.now ≡ length qubits.now }
+    ensures { Sends S.taken S.faults S.behind sink.old sink.new result (next_word (trap_text trap) ++ flat_map (λ operand. next_word (operand_text operand)) (zip qubits.now at.now)) }
+{
+    send_trap(sink, trap)?;
+    send_operands(sink, qubits, at)
 }
 
 // A qubit with its position, in front of a piece.
@@ -231,25 +266,33 @@ fn send_angle<S: Sink>(sink: &mut S, angle: &Angle) -> Result<(), Failed>
     send_all(sink, &[b",", angle.as_slice()])
 }
 
-fn send_name<S: Sink>(sink: &mut S, item: &Item) -> Result<(), Failed>
-    ensures { Sends S.taken S.faults S.behind sink.old sink.new result (next_word item.now.name) }
+// What stands before the angles of an item, in one piece where its name has no more bytes than names have.
+fn send_name<S: Sink>(sink: &mut S, number: u32, name: &[u8]) -> Result<(), Failed>
+    ensures { Sends S.taken S.faults S.behind sink.old sink.new result (codes "item " ++ decimal number ++ next_word name.now) }
 {
-    send_all(sink, &[b" ", item.name().as_slice()])
+    if name.len() > LONGEST_NAME {
+        return send_long_name(sink, number, name);
+    }
+    let mut piece = Piece::new();
+    piece.put(name);
+    piece.put(b" ");
+    piece.put_labelled(b"item ", u64::from(number));
+    send(sink, piece.as_slice())
 }
 
-// The name and the angles of a gate, as one word.
-fn send_gate<S: Sink>(sink: &mut S, item: &Item) -> Result<(), Failed>
-    ensures { Sends S.taken S.faults S.behind sink.old sink.new result (next_word (item.now.name ++ angles_text item.now.angles)) }
+fn send_long_name<S: Sink>(sink: &mut S, number: u32, name: &[u8]) -> Result<(), Failed>
+    ensures { Sends S.taken S.faults S.behind sink.old sink.new result (codes "item " ++ decimal number ++ next_word name.now) }
 {
-    send_name(sink, item)?;
+    let number = number_text(u64::from(number));
+    send_all(sink, &[b"item ", number.as_bytes(), b" ", name])
+}
+
+// An item's number, and its name and angles as one word.
+fn send_gate<S: Sink>(sink: &mut S, number: u32, item: &Item) -> Result<(), Failed>
+    ensures { Sends S.taken S.faults S.behind sink.old sink.new result (codes "item " ++ decimal number ++ next_word (item.now.name ++ angles_text item.now.angles)) }
+{
+    send_name(sink, number, item.name().as_slice())?;
     send_angles(sink, item.angles().as_slice())
-}
-
-// The name of an operation with the number of its item.
-fn send_headed<S: Sink>(sink: &mut S, name: &[u8], number: u32) -> Result<(), Failed>
-    ensures { Sends S.taken S.faults S.behind sink.old sink.new result (name.now ++ decimal number) }
-{
-    send_labelled(sink, name, u64::from(number))
 }
 
 fn send_item<S: Sink>(
@@ -262,11 +305,15 @@ fn send_item<S: Sink>(
     requires { length at.now ≡ length item.now.qubits }
     ensures { Sends S.taken S.faults S.behind sink.old sink.new result (op_text (op.Item number trap item.now at.now)) }
 {
-    send_headed(sink, b"item ", number)?;
-    send_gate(sink, item)?;
-    send_trap(sink, trap)?;
-    send_operands(sink, item.qubits().as_slice(), at)?;
+    send_gate(sink, number, item)?;
+    send_place(sink, trap, item.qubits().as_slice(), at)?;
     send_bits(sink, item.bits().as_slice())
+}
+
+fn send_fence_number<S: Sink>(sink: &mut S, number: u32) -> Result<(), Failed>
+    ensures { Sends S.taken S.faults S.behind sink.old sink.new result (codes "fence " ++ decimal number) }
+{
+    send_labelled(sink, b"fence ", u64::from(number))
 }
 
 fn send_fence<S: Sink>(
@@ -277,7 +324,7 @@ fn send_fence<S: Sink>(
 ) -> Result<(), Failed>
     ensures { Sends S.taken S.faults S.behind sink.old sink.new result (op_text (op.Fence number item.now traps.now)) }
 {
-    send_headed(sink, b"fence ", number)?;
+    send_fence_number(sink, number)?;
     send_traps(sink, traps)?;
     send_qubits(sink, item.qubits().as_slice())
 }

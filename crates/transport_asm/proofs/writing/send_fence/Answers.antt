@@ -17,18 +17,18 @@ traps ts = flat_map (λ t. next_word (trap_text t)) ts
 abbrev qubits : List Qubit → List ℕ
 qubits qs = flat_map (λ q. next_word (qubit_text q)) qs
 
-pub returns-in_err-send_headed : goal.returns-in_err-send_headed
-returns-in_err-send_headed g c =
-    sent_last c.from_residual.result _ (sent_grown (head c.args.number ++ traps c.args.traps.now) (qubits c.args.item.now.qubits) (sent_grown (head c.args.number) (traps c.args.traps.now) c.in_err-send_headed.ensures)) c.from_residual.ensures.1
+pub returns-in_err-send_fence_number : goal.returns-in_err-send_fence_number
+returns-in_err-send_fence_number g c =
+    sent_last c.from_residual.result _ (sent_grown (head c.args.number ++ traps c.args.traps.now) (qubits c.args.item.now.qubits) (sent_grown (head c.args.number) (traps c.args.traps.now) c.in_err-send_fence_number.ensures)) c.from_residual.ensures.1
 
 pub returns-in_err-send_traps : goal.returns-in_err-send_traps
 returns-in_err-send_traps g c =
     sent_last c.from_residual-in_err-send_traps.result _
-    (sent_grown (head c.args.number ++ traps c.args.traps.now) (qubits c.args.item.now.qubits) (sent_next (Err c.in_err-send_traps.field-0.0) (head c.args.number) (traps c.args.traps.now) c.in_ok-send_headed.ensures c.in_err-send_traps.ensures))
+    (sent_grown (head c.args.number ++ traps c.args.traps.now) (qubits c.args.item.now.qubits) (sent_next (Err c.in_err-send_traps.field-0.0) (head c.args.number) (traps c.args.traps.now) c.in_ok-send_fence_number.ensures c.in_err-send_traps.ensures))
     c.from_residual-in_err-send_traps.ensures.1
 
 pub returns : goal.returns
 returns g c =
     sent_next c.send_qubits.result (head c.args.number ++ traps c.args.traps.now) (qubits c.args.item.now.qubits)
-    (sent_next (Ok tt) (head c.args.number) (traps c.args.traps.now) c.in_ok-send_headed.ensures c.in_ok-send_traps.ensures)
+    (sent_next (Ok tt) (head c.args.number) (traps c.args.traps.now) c.in_ok-send_fence_number.ensures c.in_ok-send_traps.ensures)
     (subst (λ (qs : List Qubit). Sends g.S.Sink.taken g.S.Sink.faults g.S.Sink.behind c.send_traps.new.sink c.send_qubits.new.sink c.send_qubits.result (qubits qs)) (c.as_slice.ensures ∙ c.qubits.ensures) c.send_qubits.ensures)
