@@ -1,9 +1,9 @@
 //! Small writes gathered into large ones.
 
-ghost use Rattle.std.specs.Prelude.{◌≡◌, ℕ, ◌<◌, ◌≤◌, ◌++◌, ◌∷◌, List, [], length, take, drop, IfOk, OnOk, OnErr};
+ghost use Rattle.std.specs.Prelude.{◌≡◌, ℕ, ◌<◌, ◌≤◌, ◌++◌, ◌∷◌, List, [], length, take, drop, true, false, IfOk, OnOk, OnErr};
 ghost use Rattle.qccd_io.specs.Faults.{Rose};
 ghost use Rattle.qccd_io.specs.Sends.{Sends};
-ghost use Rattle.qccd_io.specs.Sink.{appended, known_length, Further};
+ghost use Rattle.qccd_io.specs.Sink.{appended, known_length, Further, TookFirst};
 
 use crate::failed::Failed;
 use crate::sink::Sink;
@@ -48,6 +48,21 @@ impl Buffer {
         ensures { result.now ≡ self.now }
     {
         &self.bytes[self.gone..]
+    }
+
+    /// Adds the piece if there is room for all of it, and says whether there was.
+    #[inline]
+    fn gather_whole(&mut self, piece: &[u8]) -> bool
+        ensures whole { result ≡ true → self.new ≡ self.old ++ piece.now }
+        ensures none { result ≡ false → self.new ≡ self.old }
+    {
+        if piece.len() > self.bytes.capacity() - self.bytes.len() {
+            return false;
+        }
+        if self.bytes.extend_from_slice(piece).is_err() {
+            unreachable!();
+        }
+        true
     }
 
     /// Adds as many first bytes of the piece as there is room for, and says how many: at least one
@@ -109,13 +124,13 @@ impl<'a, S: Sink> Sink for Buffered<'a, S> {
       handed = known_length (S.taken b.sink.now);
     } };
 
+    // Nearly all pieces find room, so that what else there is to do stays out of their way.
+    #[inline]
     fn write(&mut self, piece: &[u8]) -> Result<usize, Failed> {
-        let gathered = self.buffer.gather(piece);
-        if gathered > 0 || piece.is_empty() {
-            return Ok(gathered);
+        if self.buffer.gather_whole(piece) {
+            return Ok(piece.len());
         }
-        hand_on(self.sink, self.buffer)?;
-        Ok(self.buffer.gather(piece))
+        write_over(self.sink, self.buffer, piece)
     }
 }
 
@@ -138,6 +153,24 @@ impl<'a, S: Sink> Buffered<'a, S> {
         let Buffered { sink, buffer } = self;
         hand_on(sink, buffer)
     }
+}
+
+/// Adds what there is room for of a piece, and hands on what waits where there is none.
+#[cold]
+fn write_over<S: Sink>(sink: &mut S, buffer: &mut Buffer, piece: &[u8]) -> Result<usize, Failed>
+    ensures ok { IfOk result (λ n. TookFirst (appended (S.taken sink.old) buffer.old) (appended (S.taken sink.new) buffer.new) piece.now n) }
+    ensures err { OnErr result ((appended (S.taken sink.new) buffer.new ≡ appended (S.taken sink.old) buffer.old)
+        × Rose (S.faults sink.old) (S.faults sink.new)) }
+    ensures count { S.faults sink.old ≤ S.faults sink.new }
+    ensures handed { known_length (S.taken sink.old) ≤ known_length (S.taken sink.new) }
+    ensures further { Further (S.behind sink.old) (S.behind sink.new) }
+{
+    let gathered = buffer.gather(piece);
+    if gathered > 0 || piece.is_empty() {
+        return Ok(gathered);
+    }
+    hand_on(sink, buffer)?;
+    Ok(buffer.gather(piece))
 }
 
 /// Hands on what waits. Where it fails, what was not handed on waits still.
