@@ -1,6 +1,6 @@
 //! What the cells hold at the end of a program, and the lines that tell it.
 
-ghost use Rattle.std.specs.Prelude.{◌≡◌, ◌<◌, ◌≤◌, ◌++◌, codes, flat_map, length, map};
+ghost use Rattle.std.specs.Prelude.{◌≡◌, ◌+◌, ◌<◌, ◌≤◌, ◌++◌, codes, flat_map, length, map};
 ghost use Rattle.std.specs.List.{range_with_len};
 ghost use Rattle.qccd_base.specs.Greatest.{greatest};
 ghost use Rattle.qccd_io.specs.Sends.{Sends};
@@ -17,8 +17,8 @@ ghost use Rattle.tracer.specs.Summary.{traps_heat};
 use claim_core::Program;
 use op_cells::{Cell, Cells, chain_in, index_of, rider_in};
 use op_table::{Carry, Content, Entry, Rider};
-use qccd_base::{JuncId, Res, SegEnd, SegId, TrapId, number_text};
-use qccd_io::{Failed, Sink, send, send_all};
+use qccd_base::{JuncId, Res, SegEnd, SegId, TrapId};
+use qccd_io::{Failed, Piece, Sink, send};
 
 // What the resource holds at the end.
 fn held_at_end<'a>(program: &Program, cells: &'a Cells, r: Res) -> &'a Content
@@ -53,13 +53,23 @@ fn carry_in(content: &Content) -> Option<Carry>
     }
 }
 
+// An ion and the qubit that it carries as a further word, in front of a piece.
+fn put_entry(piece: &mut Piece, entry: Entry)
+    requires { 43 ≤ piece.old.room }
+    ensures text { piece.new.text ≡ next_word (pair_text entry.ion.0 entry.qubit) ++ piece.old.text }
+    ensures room { piece.old.room ≤ piece.new.room + 43 }
+{
+    piece.put_labelled(b":q", u64::from(entry.qubit.0));
+    piece.put_labelled(b" ", u64::from(entry.ion.0));
+}
+
 // An ion and the qubit that it carries, as a further word.
 fn send_entry<S: Sink>(sink: &mut S, entry: Entry) -> Result<(), Failed>
     ensures { Sends S.taken S.faults S.behind sink.old sink.new result (next_word (pair_text entry.ion.0 entry.qubit)) }
 {
-    let ion = number_text(u64::from(entry.ion.0));
-    let qubit = number_text(u64::from(entry.qubit.0));
-    send_all(sink, &[b" ", ion.as_bytes(), b":q", qubit.as_bytes()])
+    let mut piece = Piece::new();
+    put_entry(&mut piece, entry);
+    send(sink, piece.as_slice())
 }
 
 fn send_entries<S: Sink>(sink: &mut S, entries: &[Entry]) -> Result<(), Failed>
@@ -75,12 +85,10 @@ fn send_entries<S: Sink>(sink: &mut S, entries: &[Entry]) -> Result<(), Failed>
 fn send_heat<S: Sink>(sink: &mut S, t: TrapId, heat: u64) -> Result<(), Failed>
     ensures { Sends S.taken S.faults S.behind sink.old sink.new result (labelled (codes "end T") t.0 ++ labelled (codes " heat ") heat) }
 {
-    let trap = number_text(u64::from(t.0));
-    let heat = number_text(heat);
-    send_all(
-        sink,
-        &[b"end T", trap.as_bytes(), b" heat ", heat.as_bytes()],
-    )
+    let mut piece = Piece::new();
+    piece.put_labelled(b" heat ", heat);
+    piece.put_labelled(b"end T", u64::from(t.0));
+    send(sink, piece.as_slice())
 }
 
 fn send_trap_end<S: Sink>(
@@ -122,26 +130,14 @@ fn side_word(end: SegEnd) -> &'static [u8]
 fn send_rider<S: Sink>(sink: &mut S, g: SegId, rider: Rider) -> Result<(), Failed>
     ensures { Sends S.taken S.faults S.behind sink.old sink.new result (segment_line g.0 rider.end rider.heat (pair_text rider.entry.ion.0 rider.entry.qubit)) }
 {
-    let segment = number_text(u64::from(g.0));
-    let heat = number_text(rider.heat);
-    let ion = number_text(u64::from(rider.entry.ion.0));
-    let qubit = number_text(u64::from(rider.entry.qubit.0));
-    send_all(
-        sink,
-        &[
-            b"end S",
-            segment.as_bytes(),
-            b" ",
-            side_word(rider.end),
-            b" heat ",
-            heat.as_bytes(),
-            b" ",
-            ion.as_bytes(),
-            b":q",
-            qubit.as_bytes(),
-            b"\n",
-        ],
-    )
+    let mut piece = Piece::new();
+    piece.put(b"\n");
+    put_entry(&mut piece, rider.entry);
+    piece.put_labelled(b" heat ", rider.heat);
+    piece.put(side_word(rider.end));
+    piece.put(b" ");
+    piece.put_labelled(b"end S", u64::from(g.0));
+    send(sink, piece.as_slice())
 }
 
 fn send_segment_end<S: Sink>(
@@ -175,24 +171,12 @@ fn send_segment_ends<S: Sink>(sink: &mut S, program: &Program, cells: &Cells) ->
 fn send_carry<S: Sink>(sink: &mut S, j: JuncId, carry: Carry) -> Result<(), Failed>
     ensures { Sends S.taken S.faults S.behind sink.old sink.new result (junction_line j.0 carry.heat (pair_text carry.entry.ion.0 carry.entry.qubit)) }
 {
-    let junction = number_text(u64::from(j.0));
-    let heat = number_text(carry.heat);
-    let ion = number_text(u64::from(carry.entry.ion.0));
-    let qubit = number_text(u64::from(carry.entry.qubit.0));
-    send_all(
-        sink,
-        &[
-            b"end J",
-            junction.as_bytes(),
-            b" heat ",
-            heat.as_bytes(),
-            b" ",
-            ion.as_bytes(),
-            b":q",
-            qubit.as_bytes(),
-            b"\n",
-        ],
-    )
+    let mut piece = Piece::new();
+    piece.put(b"\n");
+    put_entry(&mut piece, carry.entry);
+    piece.put_labelled(b" heat ", carry.heat);
+    piece.put_labelled(b"end J", u64::from(j.0));
+    send(sink, piece.as_slice())
 }
 
 fn send_junction_end<S: Sink>(

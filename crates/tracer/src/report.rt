@@ -19,8 +19,8 @@ use crate::order::time_order;
 use claim_core::Program;
 use op_cells::{Cells, Done};
 use op_table::Op;
-use qccd_base::{Ion, TrapId, number_text};
-use qccd_io::{Failed, Sink, send, send_all, send_labelled};
+use qccd_base::{Ion, TrapId};
+use qccd_io::{Failed, Piece, Sink, send, send_labelled};
 use std::alloc::Global;
 use transport_asm::write_op;
 
@@ -36,33 +36,22 @@ fn send_total<S: Sink>(sink: &mut S, label: &[u8], n: u64) -> Result<(), Failed>
 fn send_registers<S: Sink>(sink: &mut S, qubits: u16, bits: u16) -> Result<(), Failed>
     ensures { Sends S.taken S.faults S.behind sink.old sink.new result (labelled (codes "qubits ") qubits ++ labelled (codes " bits ") bits) }
 {
-    let qubits = number_text(u64::from(qubits));
-    let bits = number_text(u64::from(bits));
-    send_all(
-        sink,
-        &[b"qubits ", qubits.as_bytes(), b" bits ", bits.as_bytes()],
-    )
+    let mut piece = Piece::new();
+    piece.put_labelled(b" bits ", u64::from(bits));
+    piece.put_labelled(b"qubits ", u64::from(qubits));
+    send(sink, piece.as_slice())
 }
 
 // The numbers of the machine's parts, and the end of their line.
 fn send_parts<S: Sink>(sink: &mut S, traps: u8, segments: u8, junctions: u8) -> Result<(), Failed>
     ensures { Sends S.taken S.faults S.behind sink.old sink.new result (line (labelled (codes " traps ") traps ++ labelled (codes " segments ") segments ++ labelled (codes " junctions ") junctions)) }
 {
-    let traps = number_text(u64::from(traps));
-    let segments = number_text(u64::from(segments));
-    let junctions = number_text(u64::from(junctions));
-    send_all(
-        sink,
-        &[
-            b" traps ",
-            traps.as_bytes(),
-            b" segments ",
-            segments.as_bytes(),
-            b" junctions ",
-            junctions.as_bytes(),
-            b"\n",
-        ],
-    )
+    let mut piece = Piece::new();
+    piece.put(b"\n");
+    piece.put_labelled(b" junctions ", u64::from(junctions));
+    piece.put_labelled(b" segments ", u64::from(segments));
+    piece.put_labelled(b" traps ", u64::from(traps));
+    send(sink, piece.as_slice())
 }
 
 fn send_sizes<S: Sink>(sink: &mut S, program: &Program) -> Result<(), Failed>
@@ -118,30 +107,22 @@ fn send_starts<S: Sink>(sink: &mut S, program: &Program) -> Result<(), Failed>
     Ok(())
 }
 
-// What stands before the text of an operation: its number, start and finish.
+// What stands before the text of an operation: its number, start and finish, and a space.
 fn send_times<S: Sink>(sink: &mut S, done: &Done) -> Result<(), Failed>
-    ensures { Sends S.taken S.faults S.behind sink.old sink.new result (decimal done.now.op ++ next_word (decimal done.now.start) ++ next_word (decimal done.now.finish)) }
+    ensures { Sends S.taken S.faults S.behind sink.old sink.new result (decimal done.now.op ++ next_word (decimal done.now.start) ++ next_word (decimal done.now.finish) ++ codes " ") }
 {
-    let number = number_text(u64::from(done.op));
-    let start = number_text(done.start);
-    let finish = number_text(done.finish);
-    send_all(
-        sink,
-        &[
-            number.as_bytes(),
-            b" ",
-            start.as_bytes(),
-            b" ",
-            finish.as_bytes(),
-        ],
-    )
+    let mut piece = Piece::new();
+    piece.put(b" ");
+    piece.put_labelled(b" ", done.finish);
+    piece.put_labelled(b" ", done.start);
+    piece.put_number(u64::from(done.op));
+    send(sink, piece.as_slice())
 }
 
 fn send_op<S: Sink>(sink: &mut S, done: &Done, op: &Op) -> Result<(), Failed>
     ensures { Sends S.taken S.faults S.behind sink.old sink.new result (op_line (done.now.op, record { op = op.now; start = done.now.start; finish = done.now.finish })) }
 {
     send_times(sink, done)?;
-    send(sink, b" ")?;
     write_op(op, sink)?;
     send(sink, b"\n")
 }
@@ -226,24 +207,13 @@ fn send_rehearsal<S: Sink>(
 ) -> Result<(), Failed>
     ensures { Sends S.taken S.faults S.behind sink.old sink.new result (line (labelled (codes "rehearsal ") number ++ labelled (codes " qubits ") qubits ++ labelled (codes " items ") items ++ labelled (codes " ops ") ops)) }
 {
-    let number = number_text(u64::from(number));
-    let qubits = number_text(u64::from(qubits));
-    let items = number_text(u64::from(items));
-    let ops = number_text(ops);
-    send_all(
-        sink,
-        &[
-            b"rehearsal ",
-            number.as_bytes(),
-            b" qubits ",
-            qubits.as_bytes(),
-            b" items ",
-            items.as_bytes(),
-            b" ops ",
-            ops.as_bytes(),
-            b"\n",
-        ],
-    )
+    let mut piece = Piece::new();
+    piece.put(b"\n");
+    piece.put_labelled(b" ops ", ops);
+    piece.put_labelled(b" items ", u64::from(items));
+    piece.put_labelled(b" qubits ", u64::from(qubits));
+    piece.put_labelled(b"rehearsal ", u64::from(number));
+    send(sink, piece.as_slice())
 }
 
 /// Appends the summary of the program that a rehearsal of this number compiled from so many items; the cells are

@@ -10,8 +10,8 @@ use Rattle.tracer.proofs.report.send_op.Goals as goal
 abbrev times : Done → List ℕ
 times done = decimal done.op ++ next_word (decimal done.start) ++ next_word (decimal done.finish)
 
-abbrev space : List ℕ
-space = codes " "
+abbrev front : Done → List ℕ
+front done = times done ++ codes " "
 
 abbrev text : OpKind → List ℕ
 text op = op_text op
@@ -25,19 +25,14 @@ shape times op = ap (λ (text : List ℕ). text ++ codes "\n") (append_assoc tim
 pub returns-in_err-send_times : goal.returns-in_err-send_times
 returns-in_err-send_times g c =
     subst (λ (text : List ℕ). Sends g.S.Sink.taken g.S.Sink.faults g.S.Sink.behind c.args.sink.now c.send_times.new.sink c.from_residual.result text) (shape (times c.args.done.now) (op_text c.args.op.now))
-    (sent_last c.from_residual.result _ (sent_grown (((times c.args.done.now) ++ space) ++ (text c.args.op.now)) feed (sent_grown ((times c.args.done.now) ++ space) (text c.args.op.now) (sent_grown (times c.args.done.now) space c.in_err-send_times.ensures))) c.from_residual.ensures.1)
-
-pub returns-in_err-send : goal.returns-in_err-send
-returns-in_err-send g c =
-    subst (λ (text : List ℕ). Sends g.S.Sink.taken g.S.Sink.faults g.S.Sink.behind c.args.sink.now c.send.new.sink c.from_residual-in_err-send.result text) (shape (times c.args.done.now) (op_text c.args.op.now))
-    (sent_last c.from_residual-in_err-send.result _ (sent_grown (((times c.args.done.now) ++ space) ++ (text c.args.op.now)) feed (sent_grown ((times c.args.done.now) ++ space) (text c.args.op.now) (sent_next (Err c.in_err-send.field-0.0) (times c.args.done.now) space c.in_ok-send_times.ensures c.in_err-send.ensures))) c.from_residual-in_err-send.ensures.1)
+    (sent_last c.from_residual.result _ (sent_grown (front c.args.done.now ++ text c.args.op.now) feed (sent_grown (front c.args.done.now) (text c.args.op.now) c.in_err-send_times.ensures)) c.from_residual.ensures.1)
 
 pub returns-in_err-write_op : goal.returns-in_err-write_op
 returns-in_err-write_op g c =
     subst (λ (text : List ℕ). Sends g.S.Sink.taken g.S.Sink.faults g.S.Sink.behind c.args.sink.now c.write_op.new.sink c.from_residual-in_err-write_op.result text) (shape (times c.args.done.now) (op_text c.args.op.now))
-    (sent_last c.from_residual-in_err-write_op.result _ (sent_grown (((times c.args.done.now) ++ space) ++ (text c.args.op.now)) feed (sent_next (Err c.in_err-write_op.field-0.0) ((times c.args.done.now) ++ space) (text c.args.op.now) (sent_next (Ok tt) (times c.args.done.now) space c.in_ok-send_times.ensures c.in_ok-send.ensures) c.in_err-write_op.ensures)) c.from_residual-in_err-write_op.ensures.1)
+    (sent_last c.from_residual-in_err-write_op.result _ (sent_grown (front c.args.done.now ++ text c.args.op.now) feed (sent_next (Err c.in_err-write_op.field-0.0) (front c.args.done.now) (text c.args.op.now) c.in_ok-send_times.ensures c.in_err-write_op.ensures)) c.from_residual-in_err-write_op.ensures.1)
 
 pub returns : goal.returns
 returns g c =
-    subst (λ (text : List ℕ). Sends g.S.Sink.taken g.S.Sink.faults g.S.Sink.behind c.args.sink.now c.send-2.new.sink c.send-2.result text) (shape (times c.args.done.now) (op_text c.args.op.now))
-    (sent_next c.send-2.result (((times c.args.done.now) ++ space) ++ (text c.args.op.now)) feed (sent_next (Ok tt) ((times c.args.done.now) ++ space) (text c.args.op.now) (sent_next (Ok tt) (times c.args.done.now) space c.in_ok-send_times.ensures c.in_ok-send.ensures) c.in_ok-write_op.ensures) c.send-2.ensures)
+    subst (λ (text : List ℕ). Sends g.S.Sink.taken g.S.Sink.faults g.S.Sink.behind c.args.sink.now c.send.new.sink c.send.result text) (shape (times c.args.done.now) (op_text c.args.op.now))
+    (sent_next c.send.result (front c.args.done.now ++ text c.args.op.now) feed (sent_next (Ok tt) (front c.args.done.now) (text c.args.op.now) c.in_ok-send_times.ensures c.in_ok-write_op.ensures) c.send.ensures)

@@ -1,4 +1,5 @@
-use Rattle.std.proofs.Common.{◌≡◌, List, ℕ, ◌++◌, codes, decimal, append_assoc}
+use Rattle.std.proofs.Common.{◌≡◌, List, ℕ, ◌++◌, codes, decimal, ap, append_assoc}
+use Rattle.qccd_io.specs.Piece.{PieceData}
 use Rattle.tracer.proofs.Loops.{sent_as}
 use Rattle.tracer.proofs.report.send_parts.Goals as goal
 
@@ -7,18 +8,16 @@ flat a b c d e f g = simp (append_assoc)
 
 pub returns : goal.returns
 returns g c =
+    let nothing = ap (λ (p : PieceData). p.text) c.new-piece.ensures in
     sent_as (flat (codes " traps ") (decimal c.args.traps) (codes " segments ") (decimal c.args.segments) (codes " junctions ") (decimal c.args.junctions) (codes "\n"))
     (rw (
-      c.as_bytes.ensures.value,
-      c.deref.ensures.0,
-      c.number_text-traps.ensures,
-      c.from.ensures,
-      c.as_bytes-2.ensures.value,
-      c.deref-2.ensures.0,
-      c.number_text-segments.ensures,
-      c.from-2.ensures,
-      c.as_bytes-3.ensures.value,
-      c.deref-3.ensures.0,
-      c.number_text-junctions.ensures,
+      c.as_slice.ensures,
+      c.put_labelled-3.ensures.text,
       c.from-3.ensures,
-    ) at c.send_all.ensures)
+      c.put_labelled-2.ensures.text,
+      c.from-2.ensures,
+      c.put_labelled.ensures.text,
+      c.from.ensures,
+      c.put.ensures.text,
+      nothing,
+    ) at c.send.ensures)
