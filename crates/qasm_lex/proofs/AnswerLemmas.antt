@@ -89,7 +89,7 @@ fault_behind text place before NoMemory goes_on is = tt
 
 -- ---- the bytes of each token
 
-next_token_of :
+pub next_token_of :
     (text left : List ℕ) (place : ℕ) (t : Token) (follows : List ℕ) → left ≡ drop place text → place ≤ length text → IsNext left place t follows
     → IsTokenOf text t × (follows ≡ drop t.end text)
 next_token_of text left place t follows left_is within next =

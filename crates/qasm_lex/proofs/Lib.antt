@@ -7,3 +7,4 @@ pub mod ReadingLemmas
 pub mod TokenExists
 pub mod FrontLemmas
 pub mod AnswerLemmas
+pub mod LeftLemmas

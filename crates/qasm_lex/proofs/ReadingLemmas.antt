@@ -2,7 +2,7 @@
 use Rattle.std.proofs.Common.{◌≡◌, ℕ, suc, zero, ◌+◌, ◌-◌, ◌<◌, ◌≤◌, Bool, true, false, inl, inr, ◌⊎◌, List, [], ◌∷◌, ◌++◌, length, take, drop, Option, Some, None, refl, sym, ap, ◌∙◌, subst, arith}
 use Rattle.std.specs.Prelude.{◌==◌}
 use Rattle.std.specs.List.{slice_get}
-use Rattle.std.proofs.lemmas.Bool.{cases_eq, eq-eqb, eqb-true, false≢true}
+use Rattle.std.proofs.lemmas.Bool.{cases_eq, cases_lt, eq-eqb, eqb-true, false≢true}
 use Rattle.std.proofs.lemmas.Bool.Decides.{nat_tests}
 use Rattle.std.proofs.lemmas.List.{append-nil, length-append, take-append-drop, length-drop, length-take-le, drop-drop, nil_from_length, take_rest}
 use Rattle.qasm_lex.specs.declared.tokens.Token.{Token}
@@ -10,6 +10,7 @@ use Rattle.qasm_lex.specs.declared.tokens.TokenKind.{TokenKind}
 use Rattle.qasm_lex.specs.Runs.{begins}
 use Rattle.qasm_lex.specs.Tokens.{BeginsNoToken, IsLongest, IsToken}
 use Rattle.qasm_lex.specs.Gaps.{IsGap}
+use Rattle.qasm_lex.specs.Gaps.IsGap.{none as no_gap}
 use Rattle.qasm_lex.specs.Reading.{IsNext, IsStuck, Reads}
 use Rattle.qasm_lex.specs.Fronts.{GapAtFront, IsNextIn, TokenAtFront}
 use Rattle.qasm_lex.proofs.KindLemmas.{kind-unique, not_empty}
@@ -217,3 +218,15 @@ read_from (suc fuel) text from within few =
 -- each text is read
 pub reads-exists : (text : List ℕ) → IsRead text 0
 reads-exists text = read_from (suc (length text)) text 0 (omega arith) (omega arith)
+
+-- also from any place on
+pub read_at : (text : List ℕ) (place : ℕ) → IsRead (drop place text) place
+read_at text place = by_place (cases_lt (length text) place)
+  where
+    behind : length text < place → drop place text ≡ []
+    behind later = nil_from_length (drop place text) (omega (arith, length-drop place text))
+
+    by_place : (length text < place) ⊎ (place ≤ length text) → IsRead (drop place text) place
+    by_place (inl later) =
+        record { ts = []; stuck = None; reads = subst (λ (t : List ℕ). IsGap t []) (sym (behind later)) (no_gap refl) }
+    by_place (inr within) = read_from (suc (length text)) text place within (omega arith)

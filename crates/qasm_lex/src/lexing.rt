@@ -14,11 +14,13 @@ use crate::runs::begins_with;
 use crate::tokens::Token;
 use std::alloc::Global;
 
-// The token behind the gap that begins at this place. `None` tells that the text ends behind it.
-fn next_token(text: &[u8], from: usize) -> Result<Option<Token>, LexFault>
+/// The token behind the gap that begins at this place. `None` tells that the text ends behind it, and
+/// `BadByte` or `OpenString` that no token begins there. The text has at most 16,777,216 bytes.
+pub fn next_token(text: &[u8], from: usize) -> Result<Option<Token>, LexFault>
     requires short { length text.now ≤ 16777216 }
     requires within { from ≤ length text.now }
     ensures found { IfOk result (λ token. IfSome token (IsNextIn text.now from)) }
+    ensures each { IfOk result (λ token. IfSome token (IsTokenOf text.now)) }
     ensures end { IfOk result (λ token. IfNone token (IsGap (drop from text.now) [])) }
     ensures fault { IfErr result (IsFaultFrom text.now from) }
 {
@@ -70,4 +72,18 @@ pub fn lex(alloc: Global, text: &[u8]) -> Result<Vec<Token>, LexFault>
         from = token.end as usize;
     }
     Ok(tokens)
+}
+
+/// The first fault of the text, or none where it has a list of tokens. The text has at most 16,777,216
+/// bytes. It answers as `lex` does and takes no memory.
+pub fn check(text: &[u8]) -> Result<(), LexFault>
+    requires { length text.now ≤ 16777216 }
+    ensures tokens { IfOk result (λ _. (ts : List Token) × AreTokens text.now ts) }
+    ensures fault { IfErr result (IsFirstFault text.now) }
+{
+    let mut from = 0;
+    while let Some(token) = next_token(text, from)? {
+        from = token.end as usize;
+    }
+    Ok(())
 }

@@ -1,24 +1,26 @@
 -- What a call answers, by what it leads to.
-use Rattle.std.proofs.Common.{◌≡◌, ◌⊎◌, inl, inr, ℕ, List, length, Result, Ok, Err, IfOk, IfErr, IsErrAnd, MatchResult, refl}
+use Rattle.std.proofs.Common.{◌≡◌, ◌⊎◌, inl, inr, ℕ, List, length, Result, Ok, Err, IfOk, IfErr, IsErrAnd, MatchResult, refl, sym, ap, ◌∙◌}
 use Rattle.qasm_lex.specs.declared.tokens.Token.{Token}
 use Rattle.qasm_lex.specs.Reading.{AreTokens}
 use Rattle.qasm_reader.specs.declared.fault.QasmKind.{QasmKind}
 use Rattle.qasm_reader.specs.declared.fault.QasmFault.{QasmFault}
 use Rattle.qasm_reader.specs.declared.fault.QasmFault.TheVariants.{Refused, NoMemory}
 use Rattle.qccd_circuit.specs.Circuit.{CircuitData}
-use Rattle.qasm_reader.specs.Lexeme.{lexemes}
 use Rattle.qasm_reader.specs.Reading.{IsCircuitOf, IsRefusedAt, answer}
-use Rattle.qasm_reader.specs.Code.{IsFaultOf, Leads}
+use Rattle.qasm_reader.specs.Code.{IsFaultOf, Leads, Tells, lexemes_left}
+use Rattle.qasm_reader.proofs.Lexed.{circuit_lexed, lexed_all}
 use Rattle.qasm_reader.proofs.OneAnswer.{circuit_from}
 
-pub led_to_circuit : (text : List ℕ) (ts : List Token) (r : Result CircuitData QasmFault) → AreTokens text ts → Leads (answer (length text) (lexemes text ts)) (λ c. Ok c) r → IfOk r (IsCircuitOf text)
-led_to_circuit text ts (Ok c) are leads = circuit_from text ts c are leads
-led_to_circuit text ts (Err e) are leads = tt
+pub led_to_circuit : (text : List ℕ) (r : Result CircuitData QasmFault) → Leads (answer (length text) (lexemes_left text 0)) (λ c. Ok c) r → IfOk r (IsCircuitOf text)
+led_to_circuit text (Ok c) leads =
+    let lexed = circuit_lexed text c leads in
+    circuit_from text lexed.ts c lexed.are (ap (answer (length text)) (sym (lexed_all text lexed.ts lexed.are)) ∙ leads)
+led_to_circuit text (Err e) leads = tt
 
-pub led_to_fault : (text : List ℕ) (ts : List Token) (r : Result CircuitData QasmFault) → AreTokens text ts → Leads (answer (length text) (lexemes text ts)) (λ c. Ok c) r → IfErr r (IsFaultOf text)
-led_to_fault text ts (Ok c) are leads = tt
-led_to_fault text ts (Err (Refused at kind)) are leads = inr (record { tokens = ts; are = are; reads_so = leads })
-led_to_fault text ts (Err NoMemory) are leads = tt
+pub led_to_fault : (text : List ℕ) (ts : List Token) (e : QasmFault) → AreTokens text ts → Tells (answer (length text) (lexemes_left text 0)) e → IsFaultOf text e
+led_to_fault text ts (Refused at kind) are told =
+    inr (record { tokens = ts; are = are; reads_so = ap (answer (length text)) (sym (lexed_all text ts are)) ∙ told })
+led_to_fault text ts NoMemory are told = tt
 
 pub exact_circuit :
     ((text : List ℕ) (c d : CircuitData) → IsCircuitOf text c → IsCircuitOf text d → c ≡ d)

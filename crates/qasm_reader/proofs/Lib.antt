@@ -21,3 +21,5 @@ pub mod Reached
 pub mod Answered
 pub mod Unconditional
 pub mod GateRows
+pub mod LastTokens
+pub mod Lexed

@@ -33,17 +33,17 @@ heading_read size ls rest s =
     (nothing, header ((token.Semi, codes ";") ∷ [])) refl (not_true _ s.version_is, tt)
     ∙ goes_on size nothing (header ((token.Semi, codes ";") ∷ [])) s.end rest (header_check token.Semi (codes ";") s.end) (nothing, between) refl (not_true _ s.end_is, tt)
 
-record HeadingAt (size : ℕ) (ls : List Lexeme) (c : CircuitData) : Type 0 where
-  front : List Lexeme
-  rest : List Lexeme
-  split : ls ≡ front ++ rest
-  heading_is : IsHeading front
-  so : reads size nothing between rest ≡ Ok c
+pub record HeadingAt (size : ℕ) (ls : List Lexeme) (c : CircuitData) : Type 0 where
+  pub front : List Lexeme
+  pub rest : List Lexeme
+  pub split : ls ≡ front ++ rest
+  pub heading_is : IsHeading front
+  pub so : reads size nothing between rest ≡ Ok c
 
 no_end : (size : ℕ) (ts : List (TokenKind × List ℕ)) (c : CircuitData) → at_end size nothing (header ts) ≡ Ok c → ⊥
 no_end size ts c same = err_no_ok _ c same
 
-heading_split : (size : ℕ) (ls : List Lexeme) (c : CircuitData) → answer size ls ≡ Ok c → HeadingAt size ls c
+pub heading_split : (size : ℕ) (ls : List Lexeme) (c : CircuitData) → answer size ls ≡ Ok c → HeadingAt size ls c
 heading_split size ls c so =
     let two : List (TokenKind × List ℕ) = (token.Real, codes "2.0") ∷ (token.Semi, codes ";") ∷ [] in
     let one : List (TokenKind × List ℕ) = (token.Semi, codes ";") ∷ [] in

@@ -1,11 +1,13 @@
 -- How the code meets the definition of reading.
-use Rattle.std.specs.Prelude.{◌≡◌, ℕ, Bool, false, List, [], ◌∷◌, length, Option, None, Some, Result, Ok, Err}
+use Rattle.std.specs.Prelude.{◌≡◌, ℕ, Bool, false, List, [], ◌∷◌, ◌++◌, codes, length, Option, None, Some, Result, Ok, Err}
 use Rattle.qasm_reader.specs.declared.fault.QasmFault.{QasmFault}
 use Rattle.qasm_reader.specs.declared.fault.QasmFault.TheVariants.{Refused, NoMemory}
 use Rattle.qasm_reader.specs.declared.cursor.Cursor.{Cursor}
 use Rattle.qasm_reader.specs.declared.cursor.Piece.{Piece}
 use Rattle.qasm_reader.specs.Lexeme.{Lexeme, is, lexemes}
 use Rattle.qasm_lex.specs.declared.tokens.TokenKind.{TokenKind}
+use Rattle.qasm_lex.specs.declared.tokens.TokenKind.TheVariants as token
+use Rattle.qasm_lex.proofs.LeftLemmas.{stuck_left, tokens_left}
 use Rattle.qasm_reader.specs.Known.{Known}
 use Rattle.qasm_reader.specs.Named.{stands_for}
 use Rattle.qasm_reader.specs.declared.state.State.{State}
@@ -14,9 +16,18 @@ use Rattle.qasm_reader.specs.Angle.{angle_state}
 use Rattle.qasm_reader.specs.Expected.{Call, Expected, Next, ends_angle, of_gate, operand, within_angle}
 use Rattle.qasm_reader.specs.Reading.{Answer, IsRefusedAt, reads}
 
+-- Where no token begins, a string of one quote is read. It can stand nowhere.
+abbrev pub stuck_lexemes : Option ℕ → List Lexeme
+stuck_lexemes None = []
+stuck_lexemes (Some at) = record { kind = token.Text; at = 0; bytes = codes "\"" } ∷ []
+
+-- what is read of a text from a place on
+unfoldable pub lexemes_left : List ℕ → ℕ → List Lexeme
+lexemes_left text place = lexemes text (tokens_left text place) ++ stuck_lexemes (stuck_left text place)
+
 -- the tokens that are still to come
 abbrev pub ahead : Cursor → List Lexeme
-ahead c = lexemes c.text.now c.rest.now
+ahead c = lexemes_left c.text.now c.place
 
 -- whether they begin with one of this kind
 abbrev pub begins : TokenKind → List Lexeme → Bool

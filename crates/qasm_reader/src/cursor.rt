@@ -1,18 +1,17 @@
 //! The tokens of a text, one after another.
 
-ghost use Rattle.std.specs.Prelude.{◌≤◌, All, IsTrue, length};
-ghost use Rattle.qasm_reader.specs.Lexeme.{LiesIn, has_angle_bytes, lexeme};
+ghost use Rattle.std.specs.Prelude.{◌≤◌, length};
 
-use qasm_lex::{Token, TokenKind};
+use qasm_lex::{TokenKind, next_token};
 
-/// A text and those of its tokens that are still to come.
+/// A text and a place in it, from which on its tokens are still to come. Each is cut from the text when it is asked
+/// for, so no list of them is held.
 #[derive(Clone, Copy)]
 pub(crate) struct Cursor<'a> {
     pub(crate) text: &'a [u8],
-    pub(crate) rest: &'a [Token],
+    pub(crate) place: usize,
     ghost short: { length text.now ≤ 16777216 },
-    ghost each: { All (LiesIn text.now) rest.now },
-    ghost bytes: { All (λ t. IsTrue (has_angle_bytes (lexeme text.now t))) rest.now },
+    ghost within: { place ≤ length text.now },
 }
 
 /// A token with its bytes.
@@ -28,7 +27,8 @@ impl<'a> Cursor<'a> {
     ghost use Rattle.qasm_reader.specs.Lexeme.{has_angle_bytes};
     ghost use Rattle.qasm_reader.specs.Code.{ahead, seen};
 
-    /// The next token, and those behind it.
+    /// The next token, and those behind it. Where no token begins, a string of one quote is told. It can stand nowhere, so
+    /// a text that is read to its end has a list of tokens.
     pub(crate) fn next(&self) -> Option<(Piece<'a>, Cursor<'a>)>
         ensures some { IfSome result (λ p. ahead self.now ≡ seen p.0 ∷ ahead p.1) }
         ensures shorter { IfSome result (λ p. length (ahead p.1) < length (ahead self.now)) }
@@ -37,9 +37,9 @@ impl<'a> Cursor<'a> {
         ensures same { IfSome result (λ p. p.1.text.now ≡ self.now.text.now) }
         ensures none { IfNone result (ahead self.now ≡ []) }
     {
-        match self.rest {
-            [] => None,
-            [token, rest @ ..] => {
+        match next_token(self.text, self.place) {
+            Ok(None) => None,
+            Ok(Some(token)) => {
                 let piece = Piece {
                     kind: token.kind,
                     at: token.start,
@@ -49,7 +49,21 @@ impl<'a> Cursor<'a> {
                     piece,
                     Cursor {
                         text: self.text,
-                        rest,
+                        place: token.end as usize,
+                    },
+                ))
+            }
+            Err(_) => {
+                let piece = Piece {
+                    kind: TokenKind::Text,
+                    at: 0,
+                    bytes: b"\"",
+                };
+                Some((
+                    piece,
+                    Cursor {
+                        text: self.text,
+                        place: self.text.len(),
                     },
                 ))
             }

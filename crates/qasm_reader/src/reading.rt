@@ -1,17 +1,15 @@
 //! From a text to its circuit.
 
-ghost use Rattle.std.specs.Prelude.{◌≤◌, ◌≡◌, ◌⊎◌, ◌∷◌, All, IsTrue, IsErrAnd, Ok, IfErr, IfOk, List, MatchResult, length, ℕ};
+ghost use Rattle.std.specs.Prelude.{◌≤◌, ◌≡◌, ◌⊎◌, ◌∷◌, IsErrAnd, Ok, IfErr, IfOk, List, MatchResult, length, ℕ};
 ghost use Rattle.qccd_circuit.specs.Circuit.{CircuitData};
 ghost use Rattle.qasm_reader.specs.declared.fault.QasmKind.{QasmKind};
 ghost use Rattle.qasm_reader.specs.declared.fault.QasmFault.TheVariants as fault;
-ghost use Rattle.qasm_reader.specs.Reading.{IsCircuitOf, IsRefusedAt, heading};
-ghost use Rattle.qasm_lex.specs.Reading.{AreTokens};
+ghost use Rattle.qasm_reader.specs.Reading.{IsCircuitOf, IsRefusedAt, answer, heading};
 ghost use Rattle.qasm_lex.specs.declared.tokens.TokenKind.{TokenKind};
-ghost use Rattle.qasm_reader.specs.Lexeme.{LiesIn, has_angle_bytes, lexeme};
 ghost use Rattle.qasm_reader.specs.Known.{Known, circuit_of, nothing};
 ghost use Rattle.qasm_reader.specs.Expected.{behind_header, between, header};
 ghost use Rattle.qasm_reader.specs.Sound.{IsSound};
-ghost use Rattle.qasm_reader.specs.Code.{IsFaultOf, Leads, answer_from, known};
+ghost use Rattle.qasm_reader.specs.Code.{IsFaultOf, Leads, Tells, answer_from, known, lexemes_left};
 
 use crate::cursor::Cursor;
 use crate::fault::{QasmFault, QasmKind};
@@ -19,7 +17,7 @@ use crate::pieces::refused;
 use crate::state::State;
 use crate::statements::statement;
 use crate::words::{is, same};
-use qasm_lex::{LexFault, Token, TokenKind, lex};
+use qasm_lex::{LexFault, TokenKind, check};
 use qccd_circuit::Circuit;
 use std::alloc::Global;
 
@@ -82,19 +80,17 @@ fn circuit_from(alloc: Global, cursor: &Cursor<'_>) -> Result<Circuit, QasmFault
     Ok(build(state))
 }
 
-// The tokens of the text.
-fn tokens_of(alloc: Global, text: &[u8]) -> Result<Vec<Token>, QasmFault>
-    requires { length text.now ≤ 16777216 }
-    ensures tokens { IfOk result (λ ts. AreTokens text.now ts.items) }
-    ensures each { IfOk result (λ ts. All (LiesIn text.now) ts.items) }
-    ensures bytes { IfOk result (λ ts. All (λ t. IsTrue (has_angle_bytes (lexeme text.now t))) ts.items) }
-    ensures fault { IfErr result (IsFaultOf text.now) }
+// What is told of a text of which this fault was read. That it has no list of tokens is told first.
+fn first_fault(text: &[u8], read: QasmFault) -> QasmFault
+    requires short { length text.now ≤ 16777216 }
+    requires told { Tells (answer (length text.now) (lexemes_left text.now 0)) read }
+    ensures { IsFaultOf text.now result }
 {
-    match lex(alloc, text) {
-        Ok(tokens) => Ok(tokens),
-        Err(LexFault::BadByte { at }) => Err(refused(at, QasmKind::Token)),
-        Err(LexFault::OpenString { at }) => Err(refused(at, QasmKind::Token)),
-        Err(LexFault::NoMemory) => Err(QasmFault::NoMemory),
+    match check(text) {
+        Ok(()) => read,
+        Err(LexFault::BadByte { at }) => refused(at, QasmKind::Token),
+        Err(LexFault::OpenString { at }) => refused(at, QasmKind::Token),
+        Err(LexFault::NoMemory) => QasmFault::NoMemory,
     }
 }
 
@@ -104,14 +100,10 @@ fn answer(alloc: Global, text: &[u8]) -> Result<Circuit, QasmFault>
     ensures circuit { IfOk result (IsCircuitOf text.now) }
     ensures fault { IfErr result (IsFaultOf text.now) }
 {
-    let tokens = tokens_of(alloc, text)?;
-    circuit_from(
-        alloc,
-        &Cursor {
-            text,
-            rest: &tokens,
-        },
-    )
+    match circuit_from(alloc, &Cursor { text, place: 0 }) {
+        Ok(circuit) => Ok(circuit),
+        Err(read) => Err(first_fault(text, read)),
+    }
 }
 
 /// The circuit of the text, which is OpenQASM 2.0 with the names of `qelib1.inc` and without
