@@ -57,6 +57,7 @@ const CCX: [Step; 15] = [
 const AROUND: [Step; 1] = [Step::Cx(Wire::C, Wire::B)];
 
 /// The item on these qubits with no bit.
+#[inline(always)]
 pub(crate) fn item_on(
     alloc: Global,
     kind: ItemKind,

@@ -189,6 +189,7 @@ impl AngleList {
 }
 
 // Copies of the angles, in order.
+#[inline(always)]
 fn copies(alloc: Global, angles: &[Angle]) -> Result<Vec<Angle>, NoMemory>
     ensures { IfOk result (λ copies. copies.items ≡ angles.now) }
 {
