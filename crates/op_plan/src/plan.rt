@@ -108,9 +108,10 @@ impl Plan {
         ensures done { OnOk result (self.new ≡ with_ops self.old (op ∷ [])) }
         ensures refused { OnErr result (self.new ≡ self.old) }
     {
-        self.ops.push(op)?;
-        let last = self.ops.len() - 1;
-        follow(machine, &self.ops[last], &mut self.cells, &mut self.homes);
+        // Room is made first: then the operation is followed while its kind is known, and moved once.
+        self.ops.reserve(1)?;
+        follow(machine, &op, &mut self.cells, &mut self.homes);
+        self.ops.push_reserved(op);
         Ok(())
     }
 
