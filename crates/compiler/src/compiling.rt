@@ -82,7 +82,7 @@ pub fn compile(
     let start = place(alloc, circuit, &machine)?;
     let numbers = order(alloc, circuit)?;
     let routes = Routes::of(alloc, &machine)?;
-    // An item takes an operation at least, but for a barrier over no qubit.
+    // Each item takes an operation at least.
     let mut plan = Plan::with_room(
         alloc,
         &machine,
