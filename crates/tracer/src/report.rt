@@ -15,7 +15,7 @@ ghost use Rattle.tracer.specs.Reports.{Reports};
 use crate::counting::send_counts;
 use crate::ends::{last_finish, send_ends, traps_heat};
 use crate::fault::ReportFault;
-use crate::order::time_order;
+use crate::order::{order_in_place, time_order};
 use claim_core::Program;
 use op_cells::{Cells, Done};
 use op_table::Op;
@@ -176,6 +176,23 @@ fn send_report<S: Sink>(
     send_total(sink, b"finish ", finish)
 }
 
+// The report from the operations in the order of time. Only writing can fail.
+fn report_in_order<S: Sink>(
+    sink: &mut S,
+    program: &Program,
+    cells: &Cells,
+    order: &[Done],
+) -> Result<(), ReportFault>
+    requires at_end { AtEnd program.now cells.now }
+    requires ordered { order.now ≡ ordered program.now }
+    ensures { Reports S.taken S.faults S.behind sink.old sink.new result (report_text program.now) }
+{
+    match send_report(sink, program, cells, order) {
+        Ok(()) => Ok(()),
+        Err(Failed) => Err(ReportFault::Write),
+    }
+}
+
 /// Appends the report of the program, whose cells are those at its end. Refusals: `Write` where the sink failed,
 /// and then a prefix of the report was appended and its count of faults rose; `NoMemory` where memory ran out,
 /// and then nothing was appended: all memory is taken before the first byte.
@@ -188,13 +205,13 @@ pub fn write_report<S: Sink>(
     requires { AtEnd program.now cells.now }
     ensures { Reports S.taken S.faults S.behind sink.old sink.new result (report_text program.now) }
 {
+    if let Some(order) = order_in_place(program, cells) {
+        return report_in_order(sink, program, cells, order);
+    }
     let Ok(order) = time_order(alloc, program, cells) else {
         return Err(ReportFault::NoMemory);
     };
-    match send_report(sink, program, cells, order.as_slice()) {
-        Ok(()) => Ok(()),
-        Err(Failed) => Err(ReportFault::Write),
-    }
+    report_in_order(sink, program, cells, order.as_slice())
 }
 
 // The first line of a summary.
