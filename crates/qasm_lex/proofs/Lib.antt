@@ -8,3 +8,4 @@ pub mod TokenExists
 pub mod FrontLemmas
 pub mod AnswerLemmas
 pub mod LeftLemmas
+pub mod SignLemmas

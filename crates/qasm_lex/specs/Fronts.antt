@@ -1,5 +1,5 @@
 -- What the parts of the lexer find at the front of a text, in numbers of bytes.
-use Rattle.std.specs.Prelude.{◌≡◌, ◌≢◌, ◌==◌, ℕ, ◌+◌, ◌<◌, ◌≤◌, Bool, not, ◌||◌, ◌⊎◌, IsTrue, List, [], ◌∷◌, ◌++◌, length, take, drop, slice_get, Some, if◌then◌else◌}
+use Rattle.std.specs.Prelude.{◌≡◌, ◌≢◌, ◌==◌, ℕ, ◌+◌, ◌<◌, ◌≤◌, Bool, not, ◌&&◌, ◌||◌, ◌⊎◌, IsTrue, List, [], ◌∷◌, ◌++◌, length, take, drop, slice_get, Some, if◌then◌else◌}
 use Rattle.std.specs.Char.{is_ascii_alphabetic, is_ascii_digit}
 use Rattle.std.specs.List.{prefix_len}
 use Rattle.qasm_lex.specs.declared.tokens.Token.{Token}
@@ -33,6 +33,10 @@ begins_number c = is_ascii_digit c || c == 46
 -- any byte with which no word, no number and no string can begin
 abbrev pub begins_no_long : ℕ → Bool
 begins_no_long c = not (is_ascii_alphabetic c || (begins_number c || c == 34))
+
+-- such a byte with which no sign of two bytes begins either: a token that begins with it is it alone
+abbrev pub begins_alone : ℕ → Bool
+begins_alone c = begins_no_long c && not (c == 45 || c == 61)
 
 -- the first bytes of the text, so many, are the longest token
 pub record TokenAtFront (text : List ℕ) (kind : TokenKind) (len : ℕ) : Type 0 where

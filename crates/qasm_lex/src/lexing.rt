@@ -1,17 +1,18 @@
 //! From a text to its tokens.
 
-ghost use Rattle.std.specs.Prelude.{◌≡◌, ◌≤◌, [], All, IfErr, IfNone, IfOk, IfSome, IsErrAnd, List, MatchResult, drop, length, ◌⊎◌};
+ghost use Rattle.std.specs.Prelude.{◌≡◌, ◌≢◌, ◌≤◌, ℕ, [], ◌∷◌, All, IfErr, IfNone, IfOk, IfSome, IsErrAnd, IsTrue, List, MatchResult, drop, length, ◌⊎◌};
 ghost use Rattle.qasm_lex.specs.declared.fault.LexFault.{LexFault};
 ghost use Rattle.qasm_lex.specs.declared.tokens.Token.{Token};
 ghost use Rattle.qasm_lex.specs.Gaps.{IsGap};
-ghost use Rattle.qasm_lex.specs.Reading.{AreTokens, IsFaultOf, IsFirstFault, IsTokenOf};
-ghost use Rattle.qasm_lex.specs.Fronts.{IsFaultFrom, IsNextIn};
+ghost use Rattle.qasm_lex.specs.Reading.{AreTokens, IsFaultOf, IsFirstFault, IsNext, IsTokenOf};
+ghost use Rattle.qasm_lex.specs.Tokens.{IsToken};
+ghost use Rattle.qasm_lex.specs.Fronts.{IsFaultFrom, IsNextIn, begins_alone};
 
 use crate::fault::LexFault;
 use crate::gaps::gap_len;
 use crate::longest::token_at;
 use crate::runs::begins_with;
-use crate::tokens::Token;
+use crate::tokens::{Token, TokenKind};
 use std::alloc::Global;
 
 /// The token behind the gap that begins at this place. `None` tells that the text ends behind it, and
@@ -42,6 +43,31 @@ pub fn next_token(text: &[u8], from: usize) -> Result<Option<Token>, LexFault>
         Err(LexFault::OpenString { at })
     } else {
         Err(LexFault::BadByte { at })
+    }
+}
+
+/// The next token behind this place, if it is of this kind: that of a byte with which no other token begins. Where it
+/// is not, only the gap before it is read. The text has at most 16,777,216 bytes.
+#[inline]
+pub fn next_sign(text: &[u8], from: usize, kind: TokenKind, byte: u8) -> Option<Token>
+    requires short { length text.now ≤ 16777216 }
+    requires within { from ≤ length text.now }
+    requires sign { IsToken kind (byte ∷ []) }
+    requires alone { IsTrue (begins_alone byte) }
+    ensures found { IfSome result (IsNextIn text.now from) }
+    ensures each { IfSome result (IsTokenOf text.now) }
+    ensures kind { IfSome result (λ t. t.kind ≡ kind) }
+    ensures none { IfNone result ((t : Token) (follows : List ℕ) → IsNext (drop from text.now) from t follows → t.kind ≢ kind) }
+{
+    let start = from + gap_len(&text[from..]);
+    if begins_with(&text[start..], byte) {
+        Some(Token {
+            kind,
+            start: start as u32,
+            end: (start + 1) as u32,
+        })
+    } else {
+        None
     }
 }
 
