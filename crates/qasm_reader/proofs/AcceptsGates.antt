@@ -9,6 +9,7 @@ use Rattle.qasm_lex.specs.declared.tokens.TokenKind.TheVariants as token
 use Rattle.qasm_reader.specs.declared.kinds.Opening.TheVariants as opening
 use Rattle.qasm_reader.specs.Lexeme.{Lexeme, is, is_function, is_identifier, begins_small, is_reserved, rank}
 use Rattle.qasm_reader.specs.Check.{unless}
+use Rattle.qasm_reader.specs.Code.{begins}
 use Rattle.qasm_reader.specs.Known.{Known, with_items}
 use Rattle.qasm_reader.specs.declared.angle.Phase.{Phase}
 use Rattle.qasm_reader.specs.declared.angle.Phase.TheVariants.{Part, Paren, Whole}
@@ -173,10 +174,9 @@ close_step k c l is_close = ap (λ (b : Bool). if b then unless (angles_end c 0 
 
 -- what is left begins with an opening parenthesis
 abbrev pub begins_paren : List Lexeme → Bool
-begins_paren [] = false
-begins_paren (l ∷ ls) = is token.LParen l
+begins_paren ls = begins token.LParen ls
 
-bare_read : (size : ℕ) (k : Known) (c : Call) (rest : List Lexeme) → begins_paren rest ≡ false → reads size k (behind_gate c) rest ≡ reads size k (operand (of_gate (lacking c))) rest
+pub bare_read : (size : ℕ) (k : Known) (c : Call) (rest : List Lexeme) → begins_paren rest ≡ false → reads size k (behind_gate c) rest ≡ reads size k (operand (of_gate (lacking c))) rest
 bare_read size k c [] other = Rattle.qasm_reader.proofs.Steps.reads_end size k (behind_gate c) ∙ sym (Rattle.qasm_reader.proofs.Steps.reads_end size k (operand (of_gate (lacking c))))
 bare_read size k c (l ∷ ls) other =
     reads_token size k (behind_gate c) l ls

@@ -23,3 +23,4 @@ pub mod Unconditional
 pub mod GateRows
 pub mod LastTokens
 pub mod Lexed
+pub mod Signs

@@ -30,14 +30,8 @@ fn next_angle<'a>(cursor: &Cursor<'a>) -> Option<Cursor<'a>>
         → answer_from k (within_angle c (angle_state Whole 0) text) cursor.now ≡ answer_from k (within_angle (with_angle c text) (angle_state Part 0) []) rest) }
     ensures none { IfNone result (begins token.Comma (ahead cursor.now) ≡ false) }
 {
-    match cursor.next() {
-        Some((piece, rest)) => {
-            if is(TokenKind::Comma, &piece) {
-                Some(rest)
-            } else {
-                None
-            }
-        }
+    match cursor.next_sign(TokenKind::Comma, b',') {
+        Some((_, rest)) => Some(rest),
         None => None,
     }
 }
@@ -171,14 +165,8 @@ fn open_paren<'a>(cursor: &Cursor<'a>) -> Option<Cursor<'a>>
     ensures found { IfSome result (λ rest. (k : Known) (c : Call) → answer_from k (behind_gate c) cursor.now ≡ answer_from k (first_angle c) rest) }
     ensures none { IfNone result ((k : Known) (c : Call) → answer_from k (behind_gate c) cursor.now ≡ answer_from k (operand (of_gate (lacking c))) cursor.now) }
 {
-    match cursor.next() {
-        Some((piece, rest)) => {
-            if is(TokenKind::LParen, &piece) {
-                Some(rest)
-            } else {
-                None
-            }
-        }
+    match cursor.next_sign(TokenKind::LParen, b'(') {
+        Some((_, rest)) => Some(rest),
         None => None,
     }
 }

@@ -55,7 +55,7 @@ fn operand_name<'a>(
     }
 }
 
-// The token behind the next one.
+// What stands behind a `[`, if one is next.
 #[tactic(auto, unfolding(crate::specs::Reading::reads))]
 fn open_bracket<'a>(cursor: &Cursor<'a>) -> Option<Cursor<'a>>
     ensures shorter { IfSome result (λ rest. length (ahead rest) < length (ahead cursor.now)) }
@@ -63,14 +63,8 @@ fn open_bracket<'a>(cursor: &Cursor<'a>) -> Option<Cursor<'a>>
         → answer_from k (behind_name role at r) cursor.now ≡ answer_from k (expected.index role at r) rest) }
     ensures none { IfNone result (begins token.LBracket (ahead cursor.now) ≡ false) }
 {
-    match cursor.next() {
-        Some((piece, rest)) => {
-            if is(TokenKind::LBracket, &piece) {
-                Some(rest)
-            } else {
-                None
-            }
-        }
+    match cursor.next_sign(TokenKind::LBracket, b'[') {
+        Some((_, rest)) => Some(rest),
         None => None,
     }
 }
@@ -178,14 +172,8 @@ pub(crate) fn comma<'a>(cursor: &Cursor<'a>) -> Option<Cursor<'a>>
     ensures found { IfSome result (λ rest. (k : Known) (role : Role) → answer_from k (behind_operand role) cursor.now ≡ answer_from k (operand role) rest) }
     ensures none { IfNone result (begins token.Comma (ahead cursor.now) ≡ false) }
 {
-    match cursor.next() {
-        Some((piece, rest)) => {
-            if is(TokenKind::Comma, &piece) {
-                Some(rest)
-            } else {
-                None
-            }
-        }
+    match cursor.next_sign(TokenKind::Comma, b',') {
+        Some((_, rest)) => Some(rest),
         None => None,
     }
 }
