@@ -52,6 +52,14 @@ turns() {
     }'
 }
 
+# As many gates, each line one on the whole register.
+registers() {
+    awk 'BEGIN {
+        printf "OPENQASM 2.0;\ninclude \"qelib1.inc\";\nqreg q[32];\n"
+        for (n = 0; n < 2048; n++) printf "h q;\n"
+    }'
+}
+
 # Gates that take one qubit to the far end of the line and back.
 far() {
     awk -v turns="$1" 'BEGIN {
@@ -131,6 +139,8 @@ rounds=20
 circuit 32 >"$folder/circuit"
 all_of "@single:32, 32 qubits" @single:32
 rehearsed 32 @single:32
+registers >"$folder/circuit"
+all_of "@single:32, 32 qubits, gates on whole registers" @single:32
 turns >"$folder/circuit"
 all_of "@single:32, 32 qubits, gates with angles" @single:32
 rounds=3
