@@ -5,8 +5,8 @@ ghost use Rattle.std.specs.Prelude.{◌≡◌, ◌+◌, ◌≤◌, ◌++◌, [],
 use itoa::write_digits;
 use std::marker::Model;
 
-/// How many bytes a piece has room for.
-const SIZE: usize = 128;
+/// How many bytes a piece has room for: a line with six numbers, a name of 64 bytes and labels.
+const SIZE: usize = 288;
 
 /// A short piece of a text, which is put together and then sent in one write. It is written from its
 /// end to its front, as the digits of a number are found: so each goes to its place at once, and how many
@@ -26,14 +26,14 @@ impl Model for Piece {
 
     ghost view = { λ p. record { text = drop p.at p.bytes; room = p.at } };
 
-    ghost invariant = { λ p. p.at ≤ 128 };
+    ghost invariant = { λ p. p.at ≤ 288 };
 }
 
 impl Piece {
     /// A piece with nothing in it.
     #[inline]
     pub fn new() -> Piece
-        ensures { result ≡ record { text = []; room = 128 } }
+        ensures { result ≡ record { text = []; room = 288 } }
     {
         Piece {
             bytes: [0; SIZE],
@@ -41,8 +41,17 @@ impl Piece {
         }
     }
 
-    /// Puts the text in front.
+    /// Takes all text out again, so that the piece serves for the next one.
     #[inline]
+    pub fn clear(&mut self)
+        ensures { self.new ≡ record { text = []; room = 288 } }
+    {
+        self.at = SIZE;
+    }
+
+    /// Puts the text in front.
+    // Most texts are literals: inlined, a copy of a known length is a store or two.
+    #[inline(always)]
     pub fn put(&mut self, text: &[u8])
         requires { length text.now ≤ self.old.room }
         ensures text { self.new.text ≡ text.now ++ self.old.text }
@@ -64,7 +73,7 @@ impl Piece {
     }
 
     /// Puts the label and the number's decimal text behind it in front.
-    #[inline]
+    #[inline(always)]
     pub fn put_labelled(&mut self, label: &[u8], n: u64)
         requires { length label.now + 20 ≤ self.old.room }
         ensures text { self.new.text ≡ label.now ++ (decimal n ++ self.old.text) }
