@@ -1,5 +1,5 @@
 -- The text of an operation.
-use Rattle.std.specs.Prelude.{ℕ, List, [], ◌∷◌, ◌++◌, flat_map, zip, codes, decimal}
+use Rattle.std.specs.Prelude.{ℕ, Bool, true, false, ◌==◌, List, [], ◌∷◌, ◌++◌, length, flat_map, zip, codes, decimal}
 use Rattle.std.specs.List.{join_with_byte}
 use Rattle.qccd_base.specs.declared.names.Qubit.{Qubit}
 use Rattle.qccd_base.specs.declared.names.Bit.{Bit}
@@ -62,3 +62,16 @@ op_text (Item number t item at) = item_text number t item at
 op_text (Fence number item traps) =
     codes "fence " ++ decimal number ++ flat_map (λ t. next_word (trap_text t)) traps
     ++ flat_map (λ q. next_word (qubit_text q)) item.qubits
+
+-- whether the text of an operation is short enough to go in one piece: that of an item with no angles, and that
+-- of an operation that moves ions or qubits
+abbrev pub is_short : OpKind → Bool
+is_short (Split t e g) = true
+is_short (Move g) = true
+is_short (Enter g j) = true
+is_short (Leave j g) = true
+is_short (Merge g t e) = true
+is_short (Rot t p) = true
+is_short (GSwap t low high) = true
+is_short (Item number t item at) = length item.angles == 0
+is_short (Fence number item traps) = false

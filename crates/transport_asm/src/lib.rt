@@ -11,6 +11,7 @@ mod kind_text;
 pub mod laws;
 mod lines;
 mod ops;
+mod pieces;
 mod program_texts;
 mod programs;
 mod shapes;
@@ -20,6 +21,7 @@ mod writing;
 
 pub use faults::{AsmFault, AsmKind, OpFault};
 pub use ops::read_op;
+pub use pieces::put_op;
 pub use program_texts::write_program;
 pub use programs::{RawProgram, read_ops};
 pub use writing::write_op;

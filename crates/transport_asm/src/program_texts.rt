@@ -5,6 +5,7 @@ ghost use Rattle.qccd_io.specs.Sends.{Sends};
 ghost use Rattle.transport_asm.specs.OpText.{next_word};
 ghost use Rattle.transport_asm.specs.ProgramText.{program_text, counts_text, traps_head, ions_text, chain_text, ops_head, op_line_text, numbered_texts, front_text, back_text};
 
+use crate::pieces::put_op;
 use crate::writing::write_op;
 use claim_core::Program;
 use op_table::Op;
@@ -104,8 +105,8 @@ fn send_op_number<S: Sink>(sink: &mut S, number: u64) -> Result<(), Failed>
     send(sink, piece.as_slice())
 }
 
-// The line of an operation.
-fn send_op<S: Sink>(sink: &mut S, number: u64, op: &Op) -> Result<(), Failed>
+// The line of an operation that has no short text.
+fn send_long_op<S: Sink>(sink: &mut S, number: u64, op: &Op) -> Result<(), Failed>
     ensures { Sends S.taken S.faults S.behind sink.old sink.new result (op_line_text number op.now) }
 {
     send_op_number(sink, number)?;
@@ -113,12 +114,28 @@ fn send_op<S: Sink>(sink: &mut S, number: u64, op: &Op) -> Result<(), Failed>
     send(sink, b"\n")
 }
 
+// The line of an operation, put together in the piece where it is short.
+fn send_op<S: Sink>(sink: &mut S, piece: &mut Piece, number: u64, op: &Op) -> Result<(), Failed>
+    ensures { Sends S.taken S.faults S.behind sink.old sink.new result (op_line_text number op.now) }
+{
+    piece.clear();
+    piece.put(b"\n");
+    if !put_op(piece, op) {
+        return send_long_op(sink, number, op);
+    }
+    piece.put(b" ");
+    piece.put_number(number);
+    send(sink, piece.as_slice())
+}
+
 // The lines of all operations.
 fn send_ops<S: Sink>(sink: &mut S, ops: &[Op]) -> Result<(), Failed>
     ensures { Sends S.taken S.faults S.behind sink.old sink.new result (numbered_texts op_line_text 0 ops.now) }
 {
+    // One piece serves for all lines.
+    let mut piece = Piece::new();
     for (number, op) in ops.iter().enumerate() {
-        send_op(sink, number as u64, op)?;
+        send_op(sink, &mut piece, number as u64, op)?;
     }
     Ok(())
 }

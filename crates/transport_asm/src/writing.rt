@@ -1,94 +1,18 @@
 //! Operations, sent as their texts.
 
-ghost use Rattle.std.specs.Prelude.{◌≡◌, ◌+◌, ◌≤◌, ◌∷◌, ◌++◌, codes, flat_map, length, zip, decimal};
+ghost use Rattle.std.specs.Prelude.{◌≡◌, ◌∷◌, ◌++◌, codes, false, flat_map, length, zip, decimal};
 ghost use Rattle.qccd_io.specs.Sends.{Sends};
 ghost use Rattle.op_table.specs.declared.kinds.OpKind.TheVariants as op;
-ghost use Rattle.transport_asm.specs.OpText.{op_text, item_text, end_text, angles_text, operand_text, trap_text, qubit_text, bit_text, next_word};
+ghost use Rattle.transport_asm.specs.OpText.{op_text, is_short, angles_text, operand_text, trap_text, qubit_text, bit_text, next_word};
 
+use crate::pieces::{put_op, put_operand};
 use op_table::{Op, OpKind};
-use qccd_base::{Bit, End, JuncId, Qubit, SegId, TrapId, number_text};
+use qccd_base::{Bit, Qubit, TrapId, number_text};
 use qccd_circuit::{Angle, Item};
 use qccd_io::{Failed, Piece, Sink, send, send_all, send_labelled};
 
 // How many bytes a name has at most.
 const LONGEST_NAME: usize = 64;
-
-// The word of an end.
-fn end_word(end: End) -> &'static [u8]
-    ensures { result.now ≡ end_text end }
-{
-    match end {
-        End::Left => b"left",
-        End::Right => b"right",
-    }
-}
-
-fn send_split<S: Sink>(sink: &mut S, trap: TrapId, end: End, seg: SegId) -> Result<(), Failed>
-    ensures { Sends S.taken S.faults S.behind sink.old sink.new result (op_text (op.Split trap end seg)) }
-{
-    let mut piece = Piece::new();
-    piece.put_labelled(b" S", u64::from(seg.0));
-    piece.put(end_word(end));
-    piece.put(b" ");
-    piece.put_labelled(b"split T", u64::from(trap.0));
-    send(sink, piece.as_slice())
-}
-
-fn send_move<S: Sink>(sink: &mut S, seg: SegId) -> Result<(), Failed>
-    ensures { Sends S.taken S.faults S.behind sink.old sink.new result (op_text (op.Move seg)) }
-{
-    let mut piece = Piece::new();
-    piece.put_labelled(b"move S", u64::from(seg.0));
-    send(sink, piece.as_slice())
-}
-
-fn send_enter<S: Sink>(sink: &mut S, seg: SegId, junc: JuncId) -> Result<(), Failed>
-    ensures { Sends S.taken S.faults S.behind sink.old sink.new result (op_text (op.Enter seg junc)) }
-{
-    let mut piece = Piece::new();
-    piece.put_labelled(b" J", u64::from(junc.0));
-    piece.put_labelled(b"enter S", u64::from(seg.0));
-    send(sink, piece.as_slice())
-}
-
-fn send_leave<S: Sink>(sink: &mut S, junc: JuncId, seg: SegId) -> Result<(), Failed>
-    ensures { Sends S.taken S.faults S.behind sink.old sink.new result (op_text (op.Leave junc seg)) }
-{
-    let mut piece = Piece::new();
-    piece.put_labelled(b" S", u64::from(seg.0));
-    piece.put_labelled(b"leave J", u64::from(junc.0));
-    send(sink, piece.as_slice())
-}
-
-fn send_merge<S: Sink>(sink: &mut S, seg: SegId, trap: TrapId, end: End) -> Result<(), Failed>
-    ensures { Sends S.taken S.faults S.behind sink.old sink.new result (op_text (op.Merge seg trap end)) }
-{
-    let mut piece = Piece::new();
-    piece.put(end_word(end));
-    piece.put(b" ");
-    piece.put_labelled(b" T", u64::from(trap.0));
-    piece.put_labelled(b"merge S", u64::from(seg.0));
-    send(sink, piece.as_slice())
-}
-
-fn send_rot<S: Sink>(sink: &mut S, trap: TrapId, at: u8) -> Result<(), Failed>
-    ensures { Sends S.taken S.faults S.behind sink.old sink.new result (op_text (op.Rot trap at)) }
-{
-    let mut piece = Piece::new();
-    piece.put_labelled(b" ", u64::from(at));
-    piece.put_labelled(b"rot T", u64::from(trap.0));
-    send(sink, piece.as_slice())
-}
-
-fn send_gswap<S: Sink>(sink: &mut S, trap: TrapId, low: u8, high: u8) -> Result<(), Failed>
-    ensures { Sends S.taken S.faults S.behind sink.old sink.new result (op_text (op.GSwap trap low high)) }
-{
-    let mut piece = Piece::new();
-    piece.put_labelled(b" ", u64::from(high));
-    piece.put_labelled(b" ", u64::from(low));
-    piece.put_labelled(b"gswap T", u64::from(trap.0));
-    send(sink, piece.as_slice())
-}
 
 fn send_operand<S: Sink>(sink: &mut S, qubit: Qubit, at: u8) -> Result<(), Failed>
     ensures { Sends S.taken S.faults S.behind sink.old sink.new result (next_word (operand_text (qubit, at))) }
@@ -128,16 +52,6 @@ fn send_place_of_many<S: Sink>(
 {
     send_trap(sink, trap)?;
     send_operands(sink, qubits, at)
-}
-
-// A qubit with its position, in front of a piece.
-fn put_operand(piece: &mut Piece, qubit: Qubit, at: u8)
-    requires { 43 ≤ piece.old.room }
-    ensures text { piece.new.text ≡ next_word (operand_text (qubit, at)) ++ piece.old.text }
-    ensures room { piece.old.room ≤ piece.new.room + 43 }
-{
-    piece.put_labelled(b"@", u64::from(at));
-    piece.put_labelled(b" q", u64::from(qubit.0));
 }
 
 // A trap and the qubit of an item in it.
@@ -329,19 +243,12 @@ fn send_fence<S: Sink>(
     send_qubits(sink, item.qubits().as_slice())
 }
 
-/// Appends the text of the operation, with no line feed behind it. Where it fails, a prefix of the text
-/// was appended and the count of faults rose. It takes no memory.
-pub fn write_op<S: Sink>(op: &Op, sink: &mut S) -> Result<(), Failed>
+// The text of an operation that is not short.
+fn send_long<S: Sink>(op: &Op, sink: &mut S) -> Result<(), Failed>
+    requires { is_short op.now ≡ false }
     ensures { Sends S.taken S.faults S.behind sink.old sink.new result (op_text op.now) }
 {
     match op.kind() {
-        OpKind::Split { trap, end, seg } => send_split(sink, *trap, *end, *seg),
-        OpKind::Move { seg } => send_move(sink, *seg),
-        OpKind::Enter { seg, junc } => send_enter(sink, *seg, *junc),
-        OpKind::Leave { junc, seg } => send_leave(sink, *junc, *seg),
-        OpKind::Merge { seg, trap, end } => send_merge(sink, *seg, *trap, *end),
-        OpKind::Rot { trap, at } => send_rot(sink, *trap, *at),
-        OpKind::GSwap { trap, low, high } => send_gswap(sink, *trap, *low, *high),
         OpKind::Item {
             number,
             trap,
@@ -353,5 +260,18 @@ pub fn write_op<S: Sink>(op: &Op, sink: &mut S) -> Result<(), Failed>
             item,
             traps,
         } => send_fence(sink, *number, item, traps.as_slice()),
+        _ => unreachable!(),
     }
+}
+
+/// Appends the text of the operation, with no line feed behind it. Where it fails, a prefix of the text
+/// was appended and the count of faults rose. It takes no memory.
+pub fn write_op<S: Sink>(op: &Op, sink: &mut S) -> Result<(), Failed>
+    ensures { Sends S.taken S.faults S.behind sink.old sink.new result (op_text op.now) }
+{
+    let mut piece = Piece::new();
+    if put_op(&mut piece, op) {
+        return send(sink, piece.as_slice());
+    }
+    send_long(op, sink)
 }

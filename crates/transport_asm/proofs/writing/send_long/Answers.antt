@@ -4,7 +4,7 @@ use Rattle.qccd_io.specs.Sends.{Sends}
 use Rattle.op_table.specs.declared.kinds.OpKind.{OpKind}
 use Rattle.op_table.specs.declared.kinds.OpKind.TheVariants as op
 use Rattle.transport_asm.specs.OpText.{op_text}
-use Rattle.transport_asm.proofs.writing.write_op.Goals as goal
+use Rattle.transport_asm.proofs.writing.send_long.Goals as goal
 
 pub returns-in-Item : goal.returns-in-Item
 returns-in-Item g c =
