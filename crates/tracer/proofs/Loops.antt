@@ -36,6 +36,15 @@ pub all_sent : {X A T E : Type 0} {taken : X → Option (List ℕ)} {faults : X 
 all_sent {A = A} {E = E} {taken = taken} {faults = faults} {behind = behind} {old = old} {new = new} {t = t} f xs i far sent =
     subst (λ (ys : List A). Sends {E = E} taken faults behind old new (Ok t) (flat_map f ys)) (take_all i xs far) sent
 
+-- whatever is given back beside it
+pub sent_giving : {X T U E : Type 0} {taken : X → Option (List ℕ)} {faults : X → ℕ} {behind : X → Behind} {old new : X} {t : T} {u : U} {text : List ℕ}
+    → Sends {E = E} taken faults behind old new (Ok t) text → Sends {E = E} taken faults behind old new (Ok u) text
+sent_giving sent = record { ok = sent.ok; err = sent.err; count = sent.count; further = sent.further }
+
+pub sent_plain : {X T E : Type 0} {taken : X → Option (List ℕ)} {faults : X → ℕ} {behind : X → Behind} {old new : X} {t : T} {text : List ℕ}
+    → Sends {E = E} taken faults behind old new (Ok t) text → Sends {T = Unit {0}} {E = E} taken faults behind old new (Ok (tt {0})) text
+sent_plain sent = sent_giving sent
+
 -- the number at a place of a range, and the thing with its number
 in_range : (a n i : ℕ) → i < n → slice_get (range_with_len a n) i ≡ Some (a + i)
 in_range a zero i h = absurd (omega arith)

@@ -49,9 +49,9 @@ below_count (suc n) ions once =
 past_all : (n q k : ℕ) → n ≤ q → cond {A = ℕ} (nat_lt k n) 1 0 + cond {A = ℕ} (k == q) 1 0 ≤ 1
 past_all n q k far = grind (arith, nat_tests)
 
-count_all : (ions : List Stand) → count_by (λ (w : Stand). true) ions ≡ length ions
+pub count_all : {X : Type 0} (xs : List X) → count_by (λ _. true) xs ≡ length xs
 count_all [] = refl
-count_all (w ∷ ions) = omega (arith, count_by-cons (λ (x : Stand). true) w ions, count_all ions)
+count_all (x ∷ xs) = omega (arith, count_by-cons (λ _. true) x xs, count_all xs)
 
 carried_once : (m : MachineData) (s : State) (q : ℕ) → IsSafe m s → count_by (λ w. w.qubit.0 == q) s.ions ≤ 1
 carried_once m s q safe = elim (cases_lt q (length s.ions)) [

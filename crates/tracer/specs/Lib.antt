@@ -2,6 +2,7 @@ pub mod Order
 pub mod TimeOrder
 pub mod ItemOrder
 pub mod Report
+pub mod Counted
 pub mod Summary
 pub mod FaultText
 pub mod Reports

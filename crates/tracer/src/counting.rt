@@ -1,9 +1,11 @@
 //! Operations counted by kind.
 
-ghost use Rattle.std.specs.Prelude.{◌≡◌, ◌<◌, ◌≤◌, ◌==◌, ◌++◌, ℕ, count_by, decimal, flat_map, get_or, length, slice_get, Some};
+ghost use Rattle.std.specs.Prelude.{◌≡◌, ◌<◌, ◌≤◌, ◌∷◌, [], ◌++◌, ℕ, List, decimal, flat_map, length, slice_get, Some};
+ghost use Rattle.op_table.specs.declared.kinds.OpKind.{OpKind};
 ghost use Rattle.transport_asm.specs.OpText.{next_word};
 ghost use Rattle.std.specs.List.{enumerate_from};
 ghost use Rattle.qccd_io.specs.Sends.{Sends};
+ghost use Rattle.tracer.specs.Counted.{Tallied};
 ghost use Rattle.tracer.specs.Report.{column_of, columns, count_text, counts_line, item_column};
 
 use op_table::{Op, OpKind};
@@ -70,15 +72,24 @@ fn column_of(op: &Op) -> usize
     }
 }
 
-// How many of the operations stand in each column, counted in one pass.
-fn counts_of(ops: &[Op]) -> [u64; 12]
+/// Counts the operation in its column.
+#[inline]
+pub(crate) fn count(counts: &mut [u64; 12], op: &Op)
+    requires few { (ops : List OpKind) × Tallied ops counts.old × (length ops < 4194304) }
+    ensures { (ops : List OpKind) → Tallied ops counts.old → Tallied (ops ++ op.now ∷ []) counts.new }
+{
+    let column = column_of(op);
+    counts[column] += 1;
+}
+
+/// How many of the operations stand in each column, counted in one pass.
+pub(crate) fn counts_of(ops: &[Op]) -> [u64; 12]
     requires { length ops.now ≤ 4194304 }
-    ensures { (column : ℕ) → column < 12 → get_or result column 0 ≡ count_by (λ op. column_of op == column) ops.now }
+    ensures { Tallied ops.now result }
 {
     let mut counts = [0; 12];
     for op in ops {
-        let column = column_of(op);
-        counts[column] += 1;
+        count(&mut counts, op);
     }
     counts
 }
@@ -99,11 +110,9 @@ fn column_name(column: usize) -> &'static str
 }
 
 // The name of each column and the count of the operations that stand in it.
-fn send_columns<S: Sink>(sink: &mut S, ops: &[Op]) -> Result<(), Failed>
-    requires { length ops.now ≤ 4194304 }
-    ensures { Sends S.taken S.faults S.behind sink.old sink.new result (flat_map (count_text ops.now) (enumerate_from 0 columns)) }
+fn send_columns<S: Sink>(sink: &mut S, counts: &[u64; 12]) -> Result<(), Failed>
+    ensures { (ops : List OpKind) → Tallied ops counts.now → Sends S.taken S.faults S.behind sink.old sink.new result (flat_map (count_text ops) (enumerate_from 0 columns)) }
 {
-    let counts = counts_of(ops);
     for column in 0..12 {
         send_count(sink, column_name(column), counts[column])?;
     }
@@ -112,11 +121,10 @@ fn send_columns<S: Sink>(sink: &mut S, ops: &[Op]) -> Result<(), Failed>
 
 /// Appends the line that tells how many operations of each kind there are. Where it fails, a prefix of the line
 /// was appended and the count of faults rose. It takes no memory.
-pub(crate) fn send_counts<S: Sink>(sink: &mut S, ops: &[Op]) -> Result<(), Failed>
-    requires { length ops.now ≤ 4194304 }
-    ensures { Sends S.taken S.faults S.behind sink.old sink.new result (counts_line ops.now) }
+pub(crate) fn send_counts<S: Sink>(sink: &mut S, counts: &[u64; 12]) -> Result<(), Failed>
+    ensures { (ops : List OpKind) → Tallied ops counts.now → Sends S.taken S.faults S.behind sink.old sink.new result (counts_line ops) }
 {
     send(sink, b"counts")?;
-    send_columns(sink, ops)?;
+    send_columns(sink, counts)?;
     send(sink, b"\n")
 }

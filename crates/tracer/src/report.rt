@@ -1,18 +1,19 @@
 //! The report of a program, sent line by line.
 
-ghost use Rattle.std.specs.Prelude.{◌≡◌, ◌<◌, ◌++◌, Some, codes, decimal, flat_map, length, slice_get};
+ghost use Rattle.std.specs.Prelude.{◌≡◌, ◌<◌, ◌≤◌, ◌++◌, IfOk, Some, codes, decimal, flat_map, length, slice_get};
 ghost use Rattle.std.specs.List.{enumerate_from};
 ghost use Rattle.qccd_base.specs.Line.{line};
 ghost use Rattle.qccd_io.specs.Sends.{Sends};
 ghost use Rattle.claim_core.specs.AllCells.{AtEnd};
 ghost use Rattle.transport_asm.specs.OpText.{next_word};
+ghost use Rattle.tracer.specs.Counted.{Tallied};
 ghost use Rattle.tracer.specs.Order.{ordered};
 ghost use Rattle.tracer.specs.Report.{labelled, op_line, report_text, size_line, start_line};
 ghost use Rattle.tracer.specs.Summary.{summary_text};
 ghost use Rattle.tracer.specs.TimeOrder.{time_order};
 ghost use Rattle.tracer.specs.Reports.{Reports};
 
-use crate::counting::send_counts;
+use crate::counting::{count, counts_of, send_counts};
 use crate::ends::{last_finish, send_ends, traps_heat};
 use crate::fault::ReportFault;
 use crate::order::{order_in_place, time_order};
@@ -22,7 +23,7 @@ use op_table::Op;
 use qccd_base::{Ion, TrapId};
 use qccd_io::{Failed, Piece, Sink, send, send_labelled};
 use std::alloc::Global;
-use transport_asm::write_op;
+use transport_asm::{put_op, write_op};
 
 // A line of a label and a number.
 fn send_total<S: Sink>(sink: &mut S, label: &[u8], n: u64) -> Result<(), Failed>
@@ -107,24 +108,46 @@ fn send_starts<S: Sink>(sink: &mut S, program: &Program) -> Result<(), Failed>
     Ok(())
 }
 
-// What stands before the text of an operation: its number, start and finish, and a space.
-fn send_times<S: Sink>(sink: &mut S, done: &Done) -> Result<(), Failed>
-    ensures { Sends S.taken S.faults S.behind sink.old sink.new result (decimal done.now.op ++ next_word (decimal done.now.start) ++ next_word (decimal done.now.finish) ++ codes " ") }
+// What stands before the text of an operation, in front of a piece: its number, start and finish, and a space.
+fn put_times(piece: &mut Piece, done: &Done)
+    requires { 63 ≤ piece.old.room }
+    ensures { piece.new.text ≡ (decimal done.now.op ++ next_word (decimal done.now.start) ++ next_word (decimal done.now.finish) ++ codes " ") ++ piece.old.text }
 {
-    let mut piece = Piece::new();
     piece.put(b" ");
     piece.put_labelled(b" ", done.finish);
     piece.put_labelled(b" ", done.start);
     piece.put_number(u64::from(done.op));
+}
+
+// The same, sent.
+fn send_times<S: Sink>(sink: &mut S, done: &Done) -> Result<(), Failed>
+    ensures { Sends S.taken S.faults S.behind sink.old sink.new result (decimal done.now.op ++ next_word (decimal done.now.start) ++ next_word (decimal done.now.finish) ++ codes " ") }
+{
+    let mut piece = Piece::new();
+    put_times(&mut piece, done);
     send(sink, piece.as_slice())
 }
 
-fn send_op<S: Sink>(sink: &mut S, done: &Done, op: &Op) -> Result<(), Failed>
+// The line of an operation that has no short text.
+fn send_long_op<S: Sink>(sink: &mut S, done: &Done, op: &Op) -> Result<(), Failed>
     ensures { Sends S.taken S.faults S.behind sink.old sink.new result (op_line (done.now.op, record { op = op.now; start = done.now.start; finish = done.now.finish })) }
 {
     send_times(sink, done)?;
     write_op(op, sink)?;
     send(sink, b"\n")
+}
+
+// The line of an operation, put together in the piece where its text is short.
+fn send_op<S: Sink>(sink: &mut S, piece: &mut Piece, done: &Done, op: &Op) -> Result<(), Failed>
+    ensures { Sends S.taken S.faults S.behind sink.old sink.new result (op_line (done.now.op, record { op = op.now; start = done.now.start; finish = done.now.finish })) }
+{
+    piece.clear();
+    piece.put(b"\n");
+    if !put_op(piece, op) {
+        return send_long_op(sink, done, op);
+    }
+    put_times(piece, done);
+    send(sink, piece.as_slice())
 }
 
 // The operation of this number.
@@ -135,15 +158,23 @@ fn op_of(ops: &[Op], number: u32) -> &Op
     &ops[number as usize]
 }
 
-fn send_ops<S: Sink>(sink: &mut S, program: &Program, order: &[Done]) -> Result<(), Failed>
+// The lines of the operations, and how many stand in each column. They are counted as they are sent, while each is
+// at hand.
+fn send_ops<S: Sink>(sink: &mut S, program: &Program, order: &[Done]) -> Result<[u64; 12], Failed>
     requires { order.now ≡ ordered program.now }
-    ensures { Sends S.taken S.faults S.behind sink.old sink.new result (flat_map op_line (time_order program.now)) }
+    ensures sent { Sends S.taken S.faults S.behind sink.old sink.new result (flat_map op_line (time_order program.now)) }
+    ensures counted { IfOk result (λ counts. Tallied program.now.ops counts) }
 {
     let ops = program.ops();
+    let mut counts = [0; 12];
+    // One piece serves for all lines.
+    let mut piece = Piece::new();
     for done in order {
-        send_op(sink, done, op_of(ops, done.op))?;
+        let op = op_of(ops, done.op);
+        send_op(sink, &mut piece, done, op)?;
+        count(&mut counts, op);
     }
-    Ok(())
+    Ok(counts)
 }
 
 // All that stands before the operations.
@@ -167,12 +198,11 @@ fn send_report<S: Sink>(
     requires ordered { order.now ≡ ordered program.now }
     ensures { Sends S.taken S.faults S.behind sink.old sink.new result (report_text program.now) }
 {
-    let ops = program.ops();
     let finish = last_finish(program, cells);
     send_front(sink, program)?;
-    send_ops(sink, program, order)?;
+    let counts = send_ops(sink, program, order)?;
     send_ends(sink, program, cells)?;
-    send_counts(sink, ops)?;
+    send_counts(sink, &counts)?;
     send_total(sink, b"finish ", finish)
 }
 
@@ -250,7 +280,7 @@ pub fn write_summary<S: Sink>(
     let heat = traps_heat(program, cells);
     let finish = last_finish(program, cells);
     send_rehearsal(sink, number, program.qubits(), items, ops.len() as u64)?;
-    send_counts(sink, ops)?;
+    send_counts(sink, &counts_of(ops))?;
     send_total(sink, b"heat ", heat)?;
     send_total(sink, b"finish ", finish)
 }

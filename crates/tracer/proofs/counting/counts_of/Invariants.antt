@@ -1,5 +1,5 @@
 use Rattle.std.proofs.Common.{take}
-use Rattle.tracer.proofs.Tally.{Tallied}
+use Rattle.tracer.specs.Counted.{Tallied}
 use Rattle.tracer.proofs.counting.counts_of.Given as goal
 
 abbrev pub invariant-loop-op : goal.invariant-loop-op

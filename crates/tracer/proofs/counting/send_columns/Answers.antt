@@ -9,14 +9,14 @@ abbrev counted : List ℕ → ℕ → List ℕ
 counted name count = next_word name ++ next_word (decimal count)
 
 pub loop-column-preserved : goal.loop-column-preserved
-loop-column-preserved g c =
-    more_sent (count_text c.args.ops.now) (enumerate_from 0 columns) c.loop-column.column _ (numbered_at columns c.loop-column.column c.column_name.result.now c.column_name.ensures) c.loop-column.invariant
-    (sent_as (ap (counted c.column_name.result.now) (c.counts_of-counts.ensures c.loop-column.column c.loop-column-test.true)) c.in_ok-send_count.ensures)
+loop-column-preserved g c ops tally =
+    more_sent (count_text ops) (enumerate_from 0 columns) c.loop-column.column _ (numbered_at columns c.loop-column.column c.column_name.result.now c.column_name.ensures) (c.loop-column.invariant ops tally)
+    (sent_as (ap (counted c.column_name.result.now) (tally c.loop-column.column c.loop-column-test.true)) c.in_ok-send_count.ensures)
 
 pub returns-in_err-send_count : goal.returns-in_err-send_count
-returns-in_err-send_count g c =
-    part_sent (count_text c.args.ops.now) (enumerate_from 0 columns) c.loop-column.column _ _ (numbered_at columns c.loop-column.column c.column_name.result.now c.column_name.ensures) c.loop-column.invariant
-    (sent_as (ap (counted c.column_name.result.now) (c.counts_of-counts.ensures c.loop-column.column c.loop-column-test.true)) c.in_err-send_count.ensures) c.from_residual.ensures.1
+returns-in_err-send_count g c ops tally =
+    part_sent (count_text ops) (enumerate_from 0 columns) c.loop-column.column _ _ (numbered_at columns c.loop-column.column c.column_name.result.now c.column_name.ensures) (c.loop-column.invariant ops tally)
+    (sent_as (ap (counted c.column_name.result.now) (tally c.loop-column.column c.loop-column-test.true)) c.in_err-send_count.ensures) c.from_residual.ensures.1
 
 pub returns : goal.returns
-returns g c = all_sent (count_text c.args.ops.now) (enumerate_from 0 columns) c.loop-column.column (omega arith) c.loop-column.invariant
+returns g c ops tally = all_sent (count_text ops) (enumerate_from 0 columns) c.loop-column.column (omega arith) (c.loop-column.invariant ops tally)

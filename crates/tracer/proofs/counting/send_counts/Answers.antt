@@ -17,13 +17,13 @@ abbrev feed : List ℕ
 feed = codes "\n"
 
 pub returns-in_err-send : goal.returns-in_err-send
-returns-in_err-send g c =
-    sent_last c.from_residual.result _ (sent_grown (word ++ (entries c.args.ops.now)) feed (sent_grown word (entries c.args.ops.now) c.in_err-send.ensures)) c.from_residual.ensures.1
+returns-in_err-send g c ops tally =
+    sent_last c.from_residual.result _ (sent_grown (word ++ (entries ops)) feed (sent_grown word (entries ops) c.in_err-send.ensures)) c.from_residual.ensures.1
 
 pub returns-in_err-send_columns : goal.returns-in_err-send_columns
-returns-in_err-send_columns g c =
-    sent_last c.from_residual-in_err-send_columns.result _ (sent_grown (word ++ (entries c.args.ops.now)) feed (sent_next (Err c.in_err-send_columns.field-0.0) word (entries c.args.ops.now) c.in_ok-send.ensures c.in_err-send_columns.ensures)) c.from_residual-in_err-send_columns.ensures.1
+returns-in_err-send_columns g c ops tally =
+    sent_last c.from_residual-in_err-send_columns.result _ (sent_grown (word ++ (entries ops)) feed (sent_next (Err c.in_err-send_columns.field-0.0) word (entries ops) c.in_ok-send.ensures (c.in_err-send_columns.ensures ops tally))) c.from_residual-in_err-send_columns.ensures.1
 
 pub returns : goal.returns
-returns g c =
-    sent_next c.send-2.result (word ++ (entries c.args.ops.now)) feed (sent_next (Ok tt) word (entries c.args.ops.now) c.in_ok-send.ensures c.in_ok-send_columns.ensures) c.send-2.ensures
+returns g c ops tally =
+    sent_next c.send-2.result (word ++ (entries ops)) feed (sent_next (Ok tt) word (entries ops) c.in_ok-send.ensures (c.in_ok-send_columns.ensures ops tally)) c.send-2.ensures

@@ -37,12 +37,12 @@ returns-in_err-send_rehearsal g c =
 
 pub returns-in_err-send_counts : goal.returns-in_err-send_counts
 returns-in_err-send_counts g c =
-    sent_last c.from_residual-in_err-send_counts.result _ (sent_grown (((first c.args.program.now c.args.number c.args.items) ++ (counts c.args.program.now)) ++ (heat c.args.program.now)) (finish c.args.program.now) (sent_grown ((first c.args.program.now c.args.number c.args.items) ++ (counts c.args.program.now)) (heat c.args.program.now) (sent_next (Err c.in_err-send_counts.field-0.0) (first c.args.program.now c.args.number c.args.items) (counts c.args.program.now) (sent_as (rehearsal c.args.number c.args.items c.qubits.ensures c.ops-ops.ensures.value) c.in_ok-send_rehearsal.ensures) (sent_as (ap counts_line c.ops-ops.ensures.value) c.in_err-send_counts.ensures)))) c.from_residual-in_err-send_counts.ensures.1
+    sent_last c.from_residual-in_err-send_counts.result _ (sent_grown (((first c.args.program.now c.args.number c.args.items) ++ (counts c.args.program.now)) ++ (heat c.args.program.now)) (finish c.args.program.now) (sent_grown ((first c.args.program.now c.args.number c.args.items) ++ (counts c.args.program.now)) (heat c.args.program.now) (sent_next (Err c.in_err-send_counts.field-0.0) (first c.args.program.now c.args.number c.args.items) (counts c.args.program.now) (sent_as (rehearsal c.args.number c.args.items c.qubits.ensures c.ops-ops.ensures.value) c.in_ok-send_rehearsal.ensures) (sent_as (ap counts_line c.ops-ops.ensures.value) (c.in_err-send_counts.ensures c.ops-ops.result.now c.counts_of.ensures))))) c.from_residual-in_err-send_counts.ensures.1
 
 pub returns-in_err-send_total : goal.returns-in_err-send_total
 returns-in_err-send_total g c =
-    sent_last c.from_residual-in_err-send_total.result _ (sent_grown (((first c.args.program.now c.args.number c.args.items) ++ (counts c.args.program.now)) ++ (heat c.args.program.now)) (finish c.args.program.now) (sent_next (Err c.in_err-send_total.field-0.0) ((first c.args.program.now c.args.number c.args.items) ++ (counts c.args.program.now)) (heat c.args.program.now) (sent_next (Ok tt) (first c.args.program.now c.args.number c.args.items) (counts c.args.program.now) (sent_as (rehearsal c.args.number c.args.items c.qubits.ensures c.ops-ops.ensures.value) c.in_ok-send_rehearsal.ensures) (sent_as (ap counts_line c.ops-ops.ensures.value) c.in_ok-send_counts.ensures)) (sent_as (ap (total (codes "heat ")) c.traps_heat-heat.ensures) c.in_err-send_total.ensures))) c.from_residual-in_err-send_total.ensures.1
+    sent_last c.from_residual-in_err-send_total.result _ (sent_grown (((first c.args.program.now c.args.number c.args.items) ++ (counts c.args.program.now)) ++ (heat c.args.program.now)) (finish c.args.program.now) (sent_next (Err c.in_err-send_total.field-0.0) ((first c.args.program.now c.args.number c.args.items) ++ (counts c.args.program.now)) (heat c.args.program.now) (sent_next (Ok tt) (first c.args.program.now c.args.number c.args.items) (counts c.args.program.now) (sent_as (rehearsal c.args.number c.args.items c.qubits.ensures c.ops-ops.ensures.value) c.in_ok-send_rehearsal.ensures) (sent_as (ap counts_line c.ops-ops.ensures.value) (c.in_ok-send_counts.ensures c.ops-ops.result.now c.counts_of.ensures))) (sent_as (ap (total (codes "heat ")) c.traps_heat-heat.ensures) c.in_err-send_total.ensures))) c.from_residual-in_err-send_total.ensures.1
 
 pub returns : goal.returns
 returns g c =
-    sent_next c.send_total-2.result (((first c.args.program.now c.args.number c.args.items) ++ (counts c.args.program.now)) ++ (heat c.args.program.now)) (finish c.args.program.now) (sent_next (Ok tt) ((first c.args.program.now c.args.number c.args.items) ++ (counts c.args.program.now)) (heat c.args.program.now) (sent_next (Ok tt) (first c.args.program.now c.args.number c.args.items) (counts c.args.program.now) (sent_as (rehearsal c.args.number c.args.items c.qubits.ensures c.ops-ops.ensures.value) c.in_ok-send_rehearsal.ensures) (sent_as (ap counts_line c.ops-ops.ensures.value) c.in_ok-send_counts.ensures)) (sent_as (ap (total (codes "heat ")) c.traps_heat-heat.ensures) c.in_ok-send_total.ensures)) (sent_as (ap (total (codes "finish ")) c.last_finish-finish.ensures) c.send_total-2.ensures)
+    sent_next c.send_total-2.result (((first c.args.program.now c.args.number c.args.items) ++ (counts c.args.program.now)) ++ (heat c.args.program.now)) (finish c.args.program.now) (sent_next (Ok tt) ((first c.args.program.now c.args.number c.args.items) ++ (counts c.args.program.now)) (heat c.args.program.now) (sent_next (Ok tt) (first c.args.program.now c.args.number c.args.items) (counts c.args.program.now) (sent_as (rehearsal c.args.number c.args.items c.qubits.ensures c.ops-ops.ensures.value) c.in_ok-send_rehearsal.ensures) (sent_as (ap counts_line c.ops-ops.ensures.value) (c.in_ok-send_counts.ensures c.ops-ops.result.now c.counts_of.ensures))) (sent_as (ap (total (codes "heat ")) c.traps_heat-heat.ensures) c.in_ok-send_total.ensures)) (sent_as (ap (total (codes "finish ")) c.last_finish-finish.ensures) c.send_total-2.ensures)

@@ -5,7 +5,7 @@ use Rattle.transport_asm.proofs.Sending.{sent_grown}
 use Rattle.op_table.specs.declared.kinds.OpKind.{OpKind}
 use Rattle.op_cells.specs.declared.cells.Done.{Done}
 use Rattle.transport_asm.specs.OpText.{op_text, next_word}
-use Rattle.tracer.proofs.report.send_op.Goals as goal
+use Rattle.tracer.proofs.report.send_long_op.Goals as goal
 
 abbrev times : Done → List ℕ
 times done = decimal done.op ++ next_word (decimal done.start) ++ next_word (decimal done.finish)
