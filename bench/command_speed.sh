@@ -14,6 +14,9 @@ if ! [ -x "$program" ]; then
     echo "the program is not built yet: call ./qccd once" >&2
     exit 1
 fi
+# What ./qccd asks of the C library. It changes nothing for a count of words, which takes little memory.
+large_pages=$(sed -n 's/^large_pages=//p' "$here/../qccd")
+export GLIBC_TUNABLES="$large_pages"
 folder=$(mktemp -d "${TMPDIR:-/tmp}/command-speed.XXXXXX") || exit 1
 trap 'rm -rf "$folder"' EXIT
 
