@@ -1,23 +1,23 @@
 -- The longest tokens by how many bytes they take, as the code finds them.
-use Rattle.std.proofs.Common.{◌≡◌, ℕ, suc, zero, ◌+◌, ◌-◌, ◌<◌, ◌≤◌, Bool, true, false, cond, inl, inr, ◌⊎◌, List, [], ◌∷◌, ◌++◌, length, get_or, take, drop, refl, sym, ap, ◌∙◌, subst, arith}
+use Rattle.std.proofs.Common.{◌≡◌, ℕ, suc, zero, ◌+◌, ◌-◌, ◌<◌, ◌≤◌, Bool, true, false, IsTrue, cond, inl, inr, ◌⊎◌, List, [], ◌∷◌, ◌++◌, length, get_or, take, drop, refl, sym, ap, ◌∙◌, subst, arith}
 use Rattle.std.specs.Prelude.{◌==◌}
 use Rattle.std.specs.Char.{is_ascii_alphabetic, is_ascii_digit}
 use Rattle.std.specs.List.{list_all, prefix_len}
 use Rattle.std.proofs.lemmas.Bool.{and_from, and_parts, cases_lt, or_from, cond-true, cond-false, eqb-true, false≢true}
-use Rattle.std.proofs.lemmas.List.{append_assoc, length-append, length-take-le, take_at, drop_at, take_rest, take-append-drop, drop-drop}
+use Rattle.std.proofs.lemmas.List.{append_assoc, append-nil, length-append, length-take-le, take_at, drop_at, take_rest, take-append-drop, drop-drop}
 use Rattle.std.proofs.lemmas.List.Folds.{list_all-append}
 use Rattle.std.proofs.lemmas.List.Sums.{prefix_len-le-length}
 use Rattle.qasm_lex.specs.declared.tokens.TokenKind.{TokenKind}
 use Rattle.qasm_lex.specs.declared.tokens.TokenKind.TheVariants.{Word, Int, Real, Text}
 use Rattle.qasm_lex.specs.Runs.{begins, begins_pair}
-use Rattle.qasm_lex.specs.Tokens.{BeginsNoToken, IsLongest, IsToken, is_exponent_letter, is_sign_byte, is_text_byte, is_word_byte}
+use Rattle.qasm_lex.specs.Tokens.{BeginsNoToken, IsLongest, IsToken, are_digits, is_exponent, is_exponent_letter, is_sign_byte, is_text_byte, is_word, is_word_byte}
 use Rattle.qasm_lex.specs.Fronts.{ExponentAtFront, IsPerhapsExponent, TokenAtFront, begins_no_long, begins_number, fraction_size, sign_size}
-use Rattle.qasm_lex.proofs.RunLemmas.{IsRun, heads, run_at, sizes, tails}
+use Rattle.qasm_lex.proofs.RunLemmas.{IsRun, heads, run_at, run_longest-length, sizes, tails}
 use Rattle.qasm_lex.proofs.NumberLemmas.{digits_from, lone_point, longest_int, longest_power, longest_real, no_exponent, no_plain_exponent, no_signed_exponent, plain_exponent, signed_exponent}
 use Rattle.qasm_lex.proofs.TokenLemmas.{longest_short, longest_text, longest_word, no_sign, open_text}
 
 -- the bytes of a front are as many as it is long
-at_front :
+pub at_front :
     (text : List ℕ) (kind : TokenKind) (bytes follows : List ℕ) (n : ℕ) → text ≡ bytes ++ follows → length bytes ≡ n → IsLongest kind bytes follows
     → TokenAtFront text kind n
 at_front text kind bytes follows n is len longest =
@@ -60,6 +60,16 @@ word_at_front text n letter is =
     let found = cut is_word_byte text n is in
     at_front text Word (take n text) (drop n text) n (sym found.rest_is) found.len
     (longest_word (take n text) (drop n text) found.run (ap (begins is_ascii_alphabetic) found.rest_is ∙ letter))
+
+-- a word begins with a letter
+pub word_begins : (text : List ℕ) (len : ℕ) → begins is_ascii_alphabetic text ≡ false → TokenAtFront text Word len → ⊥
+word_begins text len other token = by_letter text len other token.is_longest.token
+  where
+    by_letter : (text : List ℕ) (len : ℕ) → begins is_ascii_alphabetic text ≡ false → is_word (take len text) ≡ true → ⊥
+    by_letter [] zero other all = false≢true all
+    by_letter [] (suc len) other all = false≢true all
+    by_letter (c ∷ rest) zero other all = false≢true all
+    by_letter (c ∷ rest) (suc len) other all = false≢true (sym other ∙ (and_parts (is_ascii_alphabetic c) (list_all is_word_byte (take len rest)) all).0)
 
 -- a text that begins with a byte is that byte and a rest
 split_first : (c : ℕ) (text : List ℕ) → begins (λ b. b == c) text ≡ true → text ≡ c ∷ drop 1 text
@@ -300,6 +310,90 @@ fraction_size-le (c ∷ rest) = by_test (c == 46)
     by_test : (b : Bool) → cond b (1 + prefix_len is_ascii_digit rest) 0 ≤ length (c ∷ rest)
     by_test true = omega (arith, prefix_len-le-length is_ascii_digit rest)
     by_test false = omega arith
+
+-- ---- integers
+
+some_digits : (text : List ℕ) → begins is_ascii_digit text ≡ true → 0 < prefix_len is_ascii_digit text
+some_digits [] is = absurd (false≢true is)
+some_digits (c ∷ rest) is = omega (arith, cond-true (is_ascii_digit c) (1 + prefix_len is_ascii_digit rest) 0 is)
+
+-- digits behind which neither a point nor an exponent stands
+pub int_at_front :
+    (text : List ℕ) (w e : ℕ) → begins is_ascii_digit text ≡ true → w ≡ prefix_len is_ascii_digit text
+    → begins (λ c. c == 46) (take (length text - w) (drop w text)) ≡ false → ExponentAtFront (take (length text - w) (drop w text)) e → e ≡ 0
+    → TokenAtFront text Int w
+int_at_front text w e digit whole_is other last none =
+    let found = cut is_ascii_digit text w whole_is in
+    let left = drop w text in
+    let absent : ExponentAtFront left 0 = subst (λ (n : ℕ). ExponentAtFront left n) none (subst (λ (t : List ℕ). ExponentAtFront t e) (take_rest text w) last) in
+    at_front text Int (take w text) left w (sym found.rest_is) found.len
+    (longest_int (take w text) left found.run (omega (arith, found.len, whole_is, some_digits text digit)) absent.is_longest
+    (ap (begins (λ c. c == 46)) (sym (take_rest text w)) ∙ other))
+
+-- an integer begins with a digit
+pub int_begins : (text : List ℕ) (len : ℕ) → begins is_ascii_digit text ≡ false → TokenAtFront text Int len → ⊥
+int_begins text len other token = by_digits text len other token.is_longest.token
+  where
+    by_digits : (text : List ℕ) (len : ℕ) → begins is_ascii_digit text ≡ false → are_digits (take len text) ≡ true → ⊥
+    by_digits [] zero other all = false≢true all
+    by_digits [] (suc len) other all = false≢true all
+    by_digits (c ∷ rest) zero other all = false≢true all
+    by_digits (c ∷ rest) (suc len) other all = false≢true (sym other ∙ (and_parts (is_ascii_digit c) (list_all is_ascii_digit (take len rest)) all).0)
+
+-- and is the longest token only where no longer one is
+longer_real :
+    (text front rest : List ℕ) (w len : ℕ) → w ≡ prefix_len is_ascii_digit text → front ++ rest ≡ text → IsToken Real front → w < length front
+    → TokenAtFront text Int len → ⊥
+longer_real text front rest w len whole_is is real longer token =
+    let found = cut is_ascii_digit text w whole_is in
+    let whole_text : take len text ++ drop len text ≡ text = take-append-drop len text in
+    let short =
+    run_longest-length is_ascii_digit (take w text) (drop w text) (take len text) (drop len text) found.run (found.rest_is ∙ sym whole_text)
+    (all_digits (take len text) token.is_longest.token) in
+    let long = token.is_longest.longest Real front rest (whole_text ∙ sym is) real in omega (arith, short, long, longer, found.len)
+  where
+    all_digits : (bytes : List ℕ) → are_digits bytes ≡ true → list_all is_ascii_digit bytes ≡ true
+    all_digits [] all = refl
+    all_digits (c ∷ bytes) all = all
+
+pub no_int_point :
+    (text : List ℕ) (w len : ℕ) → begins is_ascii_digit text ≡ true → w ≡ prefix_len is_ascii_digit text
+    → begins (λ c. c == 46) (take (length text - w) (drop w text)) ≡ true → TokenAtFront text Int len → ⊥
+no_int_point text w len digit whole_is point token =
+    let found = cut is_ascii_digit text w whole_is in
+    let whole = take w text in
+    let left = drop w text in
+    let left_is : left ≡ 46 ∷ drop 1 left = split_first 46 left (ap (begins (λ c. c == 46)) (sym (take_rest text w)) ∙ point) in
+    let digits : are_digits (whole ++ []) ≡ true =
+    ap are_digits (append-nil whole) ∙ digits_from whole found.run.passes (omega (arith, found.len, whole_is, some_digits text digit)) in
+    longer_real text (whole ++ 46 ∷ []) (drop 1 left) w len whole_is
+    (append_assoc whole (46 ∷ []) (drop 1 left) ∙ ap (λ (t : List ℕ). whole ++ t) (sym left_is) ∙ found.rest_is)
+    (inl (record { whole = whole; fraction = []; exponent = []; digits = digits; perhaps = inl refl; bytes_are = refl }))
+    (omega (arith, length-append whole (46 ∷ []), found.len)) token
+
+pub no_int_exponent :
+    (text : List ℕ) (w e len : ℕ) → begins is_ascii_digit text ≡ true → w ≡ prefix_len is_ascii_digit text
+    → ExponentAtFront (take (length text - w) (drop w text)) e → (e ≡ 0 → ⊥) → TokenAtFront text Int len → ⊥
+no_int_exponent text w e len digit whole_is last some token =
+    let found = cut is_ascii_digit text w whole_is in
+    let whole = take w text in
+    let left = drop w text in
+    let here = subst (λ (t : List ℕ). ExponentAtFront t e) (take_rest text w) last in
+    let size : length (take e left) ≡ e = length-take-le e left here.fits in
+    longer_real text (whole ++ take e left) (drop e left) w len whole_is
+    (append_assoc whole (take e left) (drop e left) ∙ ap (λ (t : List ℕ). whole ++ t) (take-append-drop e left) ∙ found.rest_is)
+    (inr (record {
+      whole = whole;
+      exponent = take e left;
+      digits = digits_from whole found.run.passes (omega (arith, found.len, whole_is, some_digits text digit));
+      is_exponent = there (take e left) size here.is_longest.perhaps;
+      bytes_are = refl;
+    }))
+    (omega (arith, length-append whole (take e left), found.len, size, some)) token
+  where
+    there : (bytes : List ℕ) → length bytes ≡ e → (bytes ≡ []) ⊎ IsTrue (is_exponent bytes) → IsTrue (is_exponent bytes)
+    there bytes size (inl none) = absurd (some (sym size ∙ ap length none))
+    there bytes size (inr is) = is
 
 -- ---- signs
 

@@ -1,17 +1,17 @@
 -- A text begins with one gap.
-use Rattle.std.proofs.Common.{◌≡◌, ℕ, suc, zero, ◌+◌, ◌-◌, ◌≤◌, Bool, true, false, cond, inl, inr, ◌⊎◌, List, [], ◌∷◌, ◌++◌, length, take, drop, take-add, refl, sym, ap, ◌∙◌, subst, arith}
+use Rattle.std.proofs.Common.{◌≡◌, ℕ, suc, zero, ◌+◌, ◌-◌, ◌≤◌, Bool, true, false, not, cond, inl, inr, ◌⊎◌, List, [], ◌∷◌, ◌++◌, length, take, drop, take-add, refl, sym, ap, ◌∙◌, subst, arith}
 use Rattle.std.specs.Prelude.{◌==◌}
 use Rattle.std.specs.Char.{is_ascii_whitespace}
 use Rattle.std.specs.List.{list_all, prefix_len}
-use Rattle.std.proofs.lemmas.Bool.{and_parts, cond-true, cond-false, or_cases, or_parts, eqb-true, false≢true}
+use Rattle.std.proofs.lemmas.Bool.{and_parts, cond-true, cond-false, or_cases, or_from, or_parts, eqb-true, false≢true}
 use Rattle.std.proofs.lemmas.Bool.Decides.{nat_tests}
 use Rattle.std.proofs.lemmas.List.{append_assoc, length-append, take_at, drop_at, take-append-drop, length-drop, length-take-le, drop-drop, take_rest}
 use Rattle.std.proofs.lemmas.List.Sums.{prefix_len-le-length}
 use Rattle.qasm_lex.specs.Runs.{begins, begins_pair}
-use Rattle.qasm_lex.specs.Gaps.{IsGap, begins_gap, is_line_byte}
+use Rattle.qasm_lex.specs.Gaps.{IsGap, begins_gap, is_line_byte, is_solid, one_white}
 use Rattle.qasm_lex.specs.Fronts.{BeginsGap, GapAtFront}
 use Rattle.qasm_lex.specs.Gaps.IsGap.{none, white, comment}
-use Rattle.qasm_lex.proofs.RunLemmas.{IsRun, run_at}
+use Rattle.qasm_lex.proofs.RunLemmas.{IsRun, no_pair, not_then, run_at}
 
 -- two texts that are cut at one place have the same parts
 pub cut-unique : (a b c d : List ℕ) → length a ≡ length c → a ++ b ≡ c ++ d → (a ≡ c) × (b ≡ d)
@@ -101,6 +101,24 @@ gap_goes_on text piece len begun more =
 
 pub no_gap : (text : List ℕ) → begins_gap text ≡ false → GapAtFront text 0
 no_gap text other = record { fits = omega arith; is_gap = none other }
+
+no_gap_solid : (text : List ℕ) → begins is_solid text ≡ true → begins_gap text ≡ false
+no_gap_solid [] is = absurd (false≢true is)
+no_gap_solid (c ∷ rest) is =
+    let parts = and_parts (not (is_ascii_whitespace c)) (not (c == 47)) is in
+    or_from (is_ascii_whitespace c) (begins_pair 47 47 (c ∷ rest)) (not_then (is_ascii_whitespace c) parts.0)
+    (no_pair c 47 47 rest (not_then (c == 47) parts.1))
+
+-- no gap, and one of one byte
+pub solid_gap : (text : List ℕ) → begins is_solid text ≡ true → GapAtFront text 0
+solid_gap text is = no_gap text (no_gap_solid text is)
+
+pub white_gap : (text : List ℕ) → one_white text ≡ true → GapAtFront text 1
+white_gap [] is = absurd (false≢true is)
+white_gap (c ∷ []) is = absurd (false≢true is)
+white_gap (c ∷ d ∷ rest) is =
+    let parts = and_parts (is_ascii_whitespace c) (is_solid d) is in
+    gap_goes_on (c ∷ d ∷ rest) 1 0 (begins_white (c ∷ d ∷ rest) parts.0) (solid_gap (d ∷ rest) parts.1)
 
 -- two slashes and the run behind them, as a slice is cut
 pub comment_piece :

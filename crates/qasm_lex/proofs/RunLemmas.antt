@@ -1,12 +1,13 @@
 -- A text and its run: the longest front of bytes that pass a test.
-use Rattle.std.proofs.Common.{◌≡◌, ℕ, ◌+◌, ◌≤◌, Bool, true, false, cond, List, [], ◌∷◌, ◌++◌, length, take, drop, Some, refl, sym, ap, ◌∙◌, arith}
+use Rattle.std.proofs.Common.{◌≡◌, ℕ, ◌+◌, ◌≤◌, Bool, true, false, not, cond, List, [], ◌∷◌, ◌++◌, length, take, drop, Some, refl, sym, ap, ◌∙◌, arith}
+use Rattle.std.specs.Prelude.{◌==◌, ◌&&◌}
 use Rattle.std.specs.List.{list_all, prefix_len, slice_get}
 use Rattle.std.proofs.lemmas.Bool.{and_parts, and_from, false≢true}
 use Rattle.std.proofs.lemmas.List.{length-append}
 use Rattle.std.proofs.lemmas.Grind.{common_steps}
 use Rattle.std.proofs.lemmas.List.Sums.{prefix_len-le-length}
 use Rattle.std.proofs.Math.Numerals.{one-add}
-use Rattle.qasm_lex.specs.Runs.{begins}
+use Rattle.qasm_lex.specs.Runs.{begins, begins_pair}
 
 pub heads : {a b : ℕ} {x y : List ℕ} → a ∷ x ≡ b ∷ y → a ≡ b
 heads h = cc
@@ -75,6 +76,15 @@ run-unique p (y ∷ a) b (x ∷ c) d r s same =
 pub first_begins : (p : ℕ → Bool) (text : List ℕ) (c : ℕ) (b : Bool) → Some c ≡ slice_get text 0 → p c ≡ b → begins p text ≡ b
 first_begins p [] c b is test = cc
 first_begins p (d ∷ rest) c b is test = let same : d ≡ c = cc in ap p same ∙ test
+
+-- what a test tells of a first byte
+pub not_then : (b : Bool) → not b ≡ true → b ≡ false
+not_then true is = absurd (false≢true is)
+not_then false is = refl
+
+pub no_pair : (c a b : ℕ) (rest : List ℕ) → (c == a) ≡ false → begins_pair a b (c ∷ rest) ≡ false
+no_pair c a b [] other = refl
+no_pair c a b (d ∷ rest) other = ap (λ (t : Bool). t && d == b) other
 
 -- a run is no longer than its text, as a text is cut
 pub ruleset sizes = (prefix_len-le-length, common_steps)

@@ -11,14 +11,14 @@ use Rattle.qasm_lex.specs.Runs.{begins, begins_pair}
 use Rattle.qasm_lex.specs.Tokens.{IsToken}
 use Rattle.qasm_lex.specs.Reading.{IsNext}
 use Rattle.qasm_lex.specs.Fronts.{GapAtFront, IsNextIn, TokenAtFront, begins_alone, begins_no_long}
-use Rattle.qasm_lex.proofs.RunLemmas.{heads}
+use Rattle.qasm_lex.proofs.RunLemmas.{heads, no_pair, not_then}
 use Rattle.qasm_lex.proofs.KindLemmas.{no_digit_first, no_letter, no_number, real_begins}
 use Rattle.qasm_lex.proofs.GapLemmas.{gap-unique}
-use Rattle.qasm_lex.proofs.FrontLemmas.{short_at_front}
+use Rattle.qasm_lex.proofs.FrontLemmas.{at_front, short_at_front}
 use Rattle.qasm_lex.proofs.ReadingLemmas.{next_in}
 
 -- where one token of a kind is such a byte, each is
-one_byte : (kind : TokenKind) (c : ℕ) (bytes : List ℕ) → begins_no_long c ≡ true → IsToken kind (c ∷ []) → IsToken kind bytes → bytes ≡ c ∷ []
+pub one_byte : (kind : TokenKind) (c : ℕ) (bytes : List ℕ) → begins_no_long c ≡ true → IsToken kind (c ∷ []) → IsToken kind bytes → bytes ≡ c ∷ []
 one_byte Word c bytes sign is also = absurd (no_letter c sign (and_parts (is_ascii_alphabetic c) _ is).0)
 one_byte Int c bytes sign is also = absurd (no_digit_first c sign (and_parts (is_ascii_digit c) true is).0)
 one_byte Real c bytes sign is also = absurd (no_number c sign (real_begins c [] is))
@@ -38,14 +38,6 @@ one_byte Over c bytes sign is also = also ∙ sym is
 one_byte Power c bytes sign is also = also ∙ sym is
 one_byte Arrow c bytes sign is also = also ∙ sym is
 one_byte Equal c bytes sign is also = also ∙ sym is
-
-not_then : (b : Bool) → not b ≡ true → b ≡ false
-not_then true is = absurd (false≢true is)
-not_then false is = refl
-
-no_pair : (c a b : ℕ) (rest : List ℕ) → (c == a) ≡ false → begins_pair a b (c ∷ rest) ≡ false
-no_pair c a b [] other = refl
-no_pair c a b (d ∷ rest) other = ap (λ (t : Bool). t && d == b) other
 
 -- the byte is the longest token
 alone_at_front :
@@ -68,6 +60,18 @@ pub sign_in :
 sign_in text from g c kind alone token within gap begun =
     next_in text from g 1 kind within gap (alone_at_front (take (length text - (from + g)) (drop (from + g) text)) kind c alone begun token)
 
+-- the next token stands behind the gap
+stands_behind :
+    (text : List ℕ) (from g : ℕ) → GapAtFront (take (length text - from) (drop from text)) g
+    → (t : Token) (follows : List ℕ) (next : IsNext (drop from text) from t follows)
+    → take (length text - (from + g)) (drop (from + g) text) ≡ next.bytes ++ follows
+stands_behind text from g gap_cut t follows next =
+    let left = drop from text in
+    let gap = subst (λ (t : List ℕ). GapAtFront t g) (take_rest text from) gap_cut in
+    let behind : next.bytes ++ follows ≡ drop g left =
+    (gap-unique next.is_gap gap.is_gap (sym next.left_is ∙ sym (take-append-drop g left))).1 in
+    take_rest text (from + g) ∙ sym (drop-drop g from text) ∙ sym behind
+
 -- and no token of its kind is next where another byte stands there
 pub no_sign_in :
     (text : List ℕ) (from g c : ℕ) (kind : TokenKind) → begins_alone c ≡ true → IsToken kind (c ∷ [])
@@ -75,13 +79,22 @@ pub no_sign_in :
     → begins (λ b. b == c) (take (length text - (from + g)) (drop (from + g) text)) ≡ false
     → (t : Token) (follows : List ℕ) → IsNext (drop from text) from t follows → t.kind ≡ kind → ⊥
 no_sign_in text from g c kind alone token gap_cut other t follows next same =
-    let left = drop from text in
-    let gap = subst (λ (t : List ℕ). GapAtFront t g) (take_rest text from) gap_cut in
-    let behind : next.bytes ++ follows ≡ drop g left =
-    (gap-unique next.is_gap gap.is_gap (sym next.left_is ∙ sym (take-append-drop g left))).1 in
     let bytes : next.bytes ≡ c ∷ [] =
     one_byte kind c next.bytes (and_parts (begins_no_long c) (not (c == 45 || c == 61)) alone).0 token
     (subst (λ (k : TokenKind). IsToken k next.bytes) same next.is_longest.token) in
     let stands : take (length text - (from + g)) (drop (from + g) text) ≡ c ∷ follows =
-    take_rest text (from + g) ∙ sym (drop-drop g from text) ∙ sym behind ∙ ap (λ (b : List ℕ). b ++ follows) bytes in
+    stands_behind text from g gap_cut t follows next ∙ ap (λ (b : List ℕ). b ++ follows) bytes in
     false≢true (sym other ∙ ap (begins (λ b. b == c)) stands ∙ eq-eqb c c refl)
+
+-- ---- tokens of other kinds
+
+-- no token of a kind is next where none stands behind the gap
+pub no_kind_in :
+    (text : List ℕ) (from g : ℕ) (kind : TokenKind) → GapAtFront (take (length text - from) (drop from text)) g
+    → ((len : ℕ) → TokenAtFront (take (length text - (from + g)) (drop (from + g) text)) kind len → ⊥)
+    → (t : Token) (follows : List ℕ) → IsNext (drop from text) from t follows → t.kind ≡ kind → ⊥
+no_kind_in text from g kind gap_cut none t follows next same =
+    let rest = take (length text - (from + g)) (drop (from + g) text) in
+    none (length next.bytes)
+    (subst (λ (k : TokenKind). TokenAtFront rest k (length next.bytes)) same
+    (at_front rest t.kind next.bytes follows (length next.bytes) (stands_behind text from g gap_cut t follows next) refl next.is_longest))

@@ -1,5 +1,5 @@
 -- White space and comments between tokens.
-use Rattle.std.specs.Prelude.{◌≡◌, ◌==◌, ℕ, Bool, false, not, ◌||◌, IsTrue, List, [], ◌∷◌, ◌++◌}
+use Rattle.std.specs.Prelude.{◌≡◌, ◌==◌, ℕ, Bool, false, not, ◌&&◌, ◌||◌, IsTrue, List, [], ◌∷◌, ◌++◌}
 use Rattle.std.specs.Char.{is_ascii_whitespace}
 use Rattle.std.specs.List.{list_all}
 use Rattle.qasm_lex.specs.Runs.{begins, begins_pair}
@@ -11,6 +11,16 @@ is_line_byte c = not (c == 10)
 -- white space or a comment, which begins with two slashes
 abbrev pub begins_gap : List ℕ → Bool
 begins_gap text = begins is_ascii_whitespace text || begins_pair 47 47 text
+
+-- any byte with which no gap begins
+abbrev pub is_solid : ℕ → Bool
+is_solid c = not (is_ascii_whitespace c) && not (c == 47)
+
+-- a byte of white space, and such a byte behind it
+abbrev pub one_white : List ℕ → Bool
+one_white [] = false
+one_white (c ∷ []) = false
+one_white (c ∷ d ∷ rest) = is_ascii_whitespace c && is_solid d
 
 -- All the white space and all the comments that stand before what follows.
 pub data IsGap : List ℕ → List ℕ → Type 0 where

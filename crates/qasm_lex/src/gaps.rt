@@ -1,7 +1,8 @@
 //! White space and comments.
 
 ghost use Rattle.std.specs.Prelude.{◌≡◌, false, IfNone, IfSome};
-ghost use Rattle.qasm_lex.specs.Gaps.{begins_gap};
+ghost use Rattle.qasm_lex.specs.Gaps.{begins_gap, one_white, is_solid};
+ghost use Rattle.qasm_lex.specs.Runs.{begins};
 ghost use Rattle.qasm_lex.specs.Fronts.{BeginsGap, GapAtFront};
 
 use crate::runs::{begins_pair, line_len};
@@ -22,8 +23,53 @@ fn piece_len(text: &[u8]) -> Option<usize>
     None
 }
 
+// Whether the byte begins no piece of a gap.
+#[inline(always)]
+fn is_solid(byte: u8) -> bool
+    ensures { result ≡ is_solid byte }
+{
+    !byte.is_ascii_whitespace() && byte != b'/'
+}
+
+// Whether such a byte is the first.
+#[inline(always)]
+fn begins_solid(text: &[u8]) -> bool
+    ensures { result ≡ begins is_solid text.now }
+{
+    match text {
+        [first, ..] => is_solid(*first),
+        [] => false,
+    }
+}
+
+// Whether white space is the first byte, and such a byte the second.
+#[inline(always)]
+fn one_white(text: &[u8]) -> bool
+    ensures { result ≡ one_white text.now }
+{
+    match text {
+        [first, second, ..] => first.is_ascii_whitespace() && is_solid(*second),
+        _ => false,
+    }
+}
+
 /// How many bytes of white space and comments the text begins with.
+#[inline(always)]
 pub(crate) fn gap_len(text: &[u8]) -> usize
+    ensures { GapAtFront text.now result }
+{
+    // Before most tokens there is no gap, or one byte of white space.
+    if begins_solid(text) {
+        0
+    } else if one_white(text) {
+        1
+    } else {
+        any_gap_len(text)
+    }
+}
+
+// The same for any gap, piece by piece.
+fn any_gap_len(text: &[u8]) -> usize
     ensures { GapAtFront text.now result }
 {
     let mut len = 0;

@@ -3,6 +3,7 @@
 ghost use Rattle.std.specs.Prelude.{◌≡◌, ◌≢◌, ◌≤◌, ℕ, [], ◌∷◌, All, IfErr, IfNone, IfOk, IfSome, IsErrAnd, IsTrue, List, MatchResult, drop, length, ◌⊎◌};
 ghost use Rattle.qasm_lex.specs.declared.fault.LexFault.{LexFault};
 ghost use Rattle.qasm_lex.specs.declared.tokens.Token.{Token};
+ghost use Rattle.qasm_lex.specs.declared.tokens.TokenKind.TheVariants as token;
 ghost use Rattle.qasm_lex.specs.Gaps.{IsGap};
 ghost use Rattle.qasm_lex.specs.Reading.{AreTokens, IsFaultOf, IsFirstFault, IsNext, IsTokenOf};
 ghost use Rattle.qasm_lex.specs.Tokens.{IsToken};
@@ -10,7 +11,8 @@ ghost use Rattle.qasm_lex.specs.Fronts.{IsFaultFrom, IsNextIn, begins_alone};
 
 use crate::fault::LexFault;
 use crate::gaps::gap_len;
-use crate::longest::token_at;
+use crate::longest::{token_at, word_len};
+use crate::numbers::int_len;
 use crate::runs::begins_with;
 use crate::tokens::{Token, TokenKind};
 use std::alloc::Global;
@@ -48,7 +50,7 @@ pub fn next_token(text: &[u8], from: usize) -> Result<Option<Token>, LexFault>
 
 /// The next token behind this place, if it is of this kind: that of a byte with which no other token begins. Where it
 /// is not, only the gap before it is read. The text has at most 16,777,216 bytes.
-#[inline]
+#[inline(always)]
 pub fn next_sign(text: &[u8], from: usize, kind: TokenKind, byte: u8) -> Option<Token>
     requires short { length text.now ≤ 16777216 }
     requires within { from ≤ length text.now }
@@ -68,6 +70,49 @@ pub fn next_sign(text: &[u8], from: usize, kind: TokenKind, byte: u8) -> Option<
         })
     } else {
         None
+    }
+}
+
+/// The next token behind this place, if it is a word. Where it is not, only the gap before it is read. The text has at
+/// most 16,777,216 bytes.
+#[inline(always)]
+pub fn next_word(text: &[u8], from: usize) -> Option<Token>
+    requires short { length text.now ≤ 16777216 }
+    requires within { from ≤ length text.now }
+    ensures found { IfSome result (IsNextIn text.now from) }
+    ensures each { IfSome result (IsTokenOf text.now) }
+    ensures kind { IfSome result (λ t. t.kind ≡ token.Word) }
+    ensures none { IfNone result ((t : Token) (follows : List ℕ) → IsNext (drop from text.now) from t follows → t.kind ≢ token.Word) }
+{
+    let start = from + gap_len(&text[from..]);
+    match word_len(&text[start..]) {
+        Some(len) => Some(Token {
+            kind: TokenKind::Word,
+            start: start as u32,
+            end: (start + len) as u32,
+        }),
+        None => None,
+    }
+}
+
+/// The next token behind this place, if it is an integer. The text has at most 16,777,216 bytes.
+#[inline(always)]
+pub fn next_int(text: &[u8], from: usize) -> Option<Token>
+    requires short { length text.now ≤ 16777216 }
+    requires within { from ≤ length text.now }
+    ensures found { IfSome result (IsNextIn text.now from) }
+    ensures each { IfSome result (IsTokenOf text.now) }
+    ensures kind { IfSome result (λ t. t.kind ≡ token.Int) }
+    ensures none { IfNone result ((t : Token) (follows : List ℕ) → IsNext (drop from text.now) from t follows → t.kind ≢ token.Int) }
+{
+    let start = from + gap_len(&text[from..]);
+    match int_len(&text[start..]) {
+        Some(len) => Some(Token {
+            kind: TokenKind::Int,
+            start: start as u32,
+            end: (start + len) as u32,
+        }),
+        None => None,
     }
 }
 

@@ -13,5 +13,5 @@ mod tests;
 mod tokens;
 
 pub use fault::LexFault;
-pub use lexing::{check, lex, next_sign, next_token};
+pub use lexing::{check, lex, next_int, next_sign, next_token, next_word};
 pub use tokens::{Token, TokenKind};

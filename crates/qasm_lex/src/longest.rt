@@ -1,14 +1,15 @@
 //! The longest token with which a text begins.
 
-ghost use Rattle.std.specs.Prelude.{◌==◌, [], ◌∷◌, IfNone, IfSome, IsTrue};
+ghost use Rattle.std.specs.Prelude.{◌==◌, ℕ, [], ◌∷◌, IfNone, IfSome, IsTrue};
 ghost use Rattle.std.specs.Char.{is_ascii_alphabetic};
 ghost use Rattle.qasm_lex.specs.declared.tokens.TokenKind.{TokenKind};
+ghost use Rattle.qasm_lex.specs.declared.tokens.TokenKind.TheVariants as token;
 ghost use Rattle.qasm_lex.specs.Runs.{begins};
 ghost use Rattle.qasm_lex.specs.Tokens.{BeginsNoToken, IsToken};
 ghost use Rattle.qasm_lex.specs.Fronts.{TokenAtFront, begins_no_long};
 
 use crate::numbers::number_at;
-use crate::runs::{begins_pair, begins_with, text_bytes_len, word_bytes_len};
+use crate::runs::{begins_letter, begins_pair, begins_with, text_bytes_len, word_bytes_len};
 use crate::tokens::TokenKind;
 
 // The word, and how many bytes it takes.
@@ -17,6 +18,19 @@ fn word_at(text: &[u8]) -> (TokenKind, usize)
     ensures { TokenAtFront text.now result.0 result.1 }
 {
     (TokenKind::Word, word_bytes_len(text))
+}
+
+/// How many bytes the word takes. `None` where the longest token of the text is no word.
+#[inline(always)]
+pub(crate) fn word_len(text: &[u8]) -> Option<usize>
+    ensures found { IfSome result (TokenAtFront text.now token.Word) }
+    ensures none { IfNone result ((len : ℕ) → TokenAtFront text.now token.Word len → ⊥) }
+{
+    if begins_letter(text) {
+        Some(word_bytes_len(text))
+    } else {
+        None
+    }
 }
 
 // The string. `None` where it is not closed on its line.

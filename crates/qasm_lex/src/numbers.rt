@@ -1,11 +1,12 @@
 //! The longest number with which a text begins.
 
-ghost use Rattle.std.specs.Prelude.{◌≡◌, IfNone, IfSome, IsTrue};
+ghost use Rattle.std.specs.Prelude.{◌≡◌, ℕ, IfNone, IfSome, IsTrue};
+ghost use Rattle.qasm_lex.specs.declared.tokens.TokenKind.TheVariants as token;
 ghost use Rattle.qasm_lex.specs.Runs.{begins};
 ghost use Rattle.qasm_lex.specs.Tokens.{BeginsNoToken, is_exponent_letter};
 ghost use Rattle.qasm_lex.specs.Fronts.{ExponentAtFront, TokenAtFront, begins_number, fraction_size, sign_size};
 
-use crate::runs::{begins_with, digits_len};
+use crate::runs::{begins_digit, begins_with, digits_len};
 use crate::tokens::TokenKind;
 
 // Whether the text begins with the letter of an exponent.
@@ -27,6 +28,7 @@ fn sign_len(text: &[u8]) -> usize
 }
 
 // How many bytes the exponent takes; 0 where there is none.
+#[inline(always)]
 #[tactic(auto, using(crate::proofs::RunLemmas::sizes))]
 fn exponent_len(text: &[u8]) -> usize
     ensures { ExponentAtFront text.now result }
@@ -72,4 +74,26 @@ pub(crate) fn number_at(text: &[u8]) -> Option<(TokenKind, usize)>
         TokenKind::Real
     };
     Some((kind, len))
+}
+
+/// How many bytes the integer takes. `None` where the longest token of the text is no integer.
+#[inline(always)]
+#[tactic(auto, using(crate::proofs::RunLemmas::sizes))]
+pub(crate) fn int_len(text: &[u8]) -> Option<usize>
+    ensures found { IfSome result (TokenAtFront text.now token.Int) }
+    ensures none { IfNone result ((len : ℕ) → TokenAtFront text.now token.Int len → ⊥) }
+{
+    if !begins_digit(text) {
+        return None;
+    }
+    let digits = digits_len(text);
+    let rest = &text[digits..];
+    if begins_with(rest, b'.') {
+        return None;
+    }
+    if exponent_len(rest) == 0 {
+        Some(digits)
+    } else {
+        None
+    }
 }

@@ -1,7 +1,7 @@
 //! What a text begins with, byte by byte.
 
 ghost use Rattle.std.specs.Prelude.{◌≡◌, ◌==◌};
-ghost use Rattle.std.specs.Char.{is_ascii_digit};
+ghost use Rattle.std.specs.Char.{is_ascii_alphabetic, is_ascii_digit};
 ghost use Rattle.std.specs.List.{prefix_len};
 ghost use Rattle.qasm_lex.specs.Gaps.{is_line_byte};
 ghost use Rattle.qasm_lex.specs.Runs.{begins, begins_pair};
@@ -27,7 +27,30 @@ pub(crate) fn begins_pair(text: &[u8], first: u8, second: u8) -> bool
     }
 }
 
+/// Whether the first byte is a letter.
+#[inline(always)]
+pub(crate) fn begins_letter(text: &[u8]) -> bool
+    ensures { result ≡ begins is_ascii_alphabetic text.now }
+{
+    match text {
+        [first, ..] => first.is_ascii_alphabetic(),
+        [] => false,
+    }
+}
+
+/// Whether the first byte is a digit.
+#[inline(always)]
+pub(crate) fn begins_digit(text: &[u8]) -> bool
+    ensures { result ≡ begins is_ascii_digit text.now }
+{
+    match text {
+        [first, ..] => first.is_ascii_digit(),
+        [] => false,
+    }
+}
+
 /// How many digits there are at the front.
+#[inline(always)]
 pub(crate) fn digits_len(text: &[u8]) -> usize
     ensures { result ≡ prefix_len is_ascii_digit text.now }
 {
@@ -35,6 +58,7 @@ pub(crate) fn digits_len(text: &[u8]) -> usize
 }
 
 /// How many letters, digits and underscores.
+#[inline(always)]
 pub(crate) fn word_bytes_len(text: &[u8]) -> usize
     ensures { result ≡ prefix_len is_word_byte text.now }
 {

@@ -1,7 +1,7 @@
 -- A gap behind what was passed so far is one with it.
 use Rattle.std.proofs.Common.{ℕ, ◌+◌, ◌-◌, ◌≤◌, length, drop}
 use Rattle.qasm_lex.specs.Fronts.{GapAtFront}
-use Rattle.qasm_lex.proofs.gaps.gap_len.Given as goal
+use Rattle.qasm_lex.proofs.gaps.any_gap_len.Given as goal
 
 abbrev pub invariant-loop-piece : goal.invariant-loop-piece
 invariant-loop-piece l = record {
