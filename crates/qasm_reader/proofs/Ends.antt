@@ -42,7 +42,7 @@ one_token : (k : Known) (p : Expected) (cursor rest : Cursor) (l : Lexeme) (r : 
 one_token k p cursor rest l r s steps = token_read k p cursor rest l s.found s.same ∙ ap (λ (n : Next). answer_behind n rest) steps
 
 -- a check that does not apply, and one that does
-past : {A : Type 0} (k : QasmKind) (at : ℕ) (b : Bool) (checks : List Check) (a : A) → b ≡ false → unless (wrong k at b ∷ checks) a ≡ unless checks a
+pub past : {A : Type 0} (k : QasmKind) (at : ℕ) (b : Bool) (checks : List Check) (a : A) → b ≡ false → unless (wrong k at b ∷ checks) a ≡ unless checks a
 past {A = A} k at b checks a none = ap (λ (x : Bool). elim x as (λ _. Result A Fault) [ true ↦ Err (record { at = at; kind = k }) | false ↦ unless checks a ]) none
 
 stops : {A : Type 0} (k : QasmKind) (at : ℕ) (b : Bool) (checks : List Check) (a : A) → b ≡ true → unless (wrong k at b ∷ checks) a ≡ Err (record { at = at; kind = k })

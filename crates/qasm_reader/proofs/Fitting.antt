@@ -50,7 +50,7 @@ pub gate_two :
 gate_two name angles a b is_name is_gate are apart =
     record { name = is_name; angles = are; cond = tt; distinct = apart; kind = (refl, refl, is_gate) }
 
-no_angles : AreAngles []
+pub no_angles : AreAngles []
 no_angles = (refl, omega arith)
 
 -- a test that the name can be that of a gate's item

@@ -24,3 +24,4 @@ pub mod GateRows
 pub mod LastTokens
 pub mod Lexed
 pub mod Signs
+pub mod PlainGates

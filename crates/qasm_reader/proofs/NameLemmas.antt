@@ -20,7 +20,7 @@ twice false true x y z is = absurd (false≢true is)
 twice false false x y z is = refl
 
 -- two tests that do not both pass
-apart : {X : Type 0} (b c : Bool) (x y z : X) → (b ≡ true → c ≡ true → ⊥) → cond b z (cond c x y) ≡ cond c x (cond b z y)
+pub apart : {X : Type 0} (b c : Bool) (x y z : X) → (b ≡ true → c ≡ true → ⊥) → cond b z (cond c x y) ≡ cond c x (cond b z y)
 apart true true x y z not_both = absurd (not_both refl refl)
 apart true false x y z not_both = refl
 apart false true x y z not_both = refl

@@ -8,12 +8,12 @@ use Rattle.qasm_reader.specs.Lexeme.{Lexeme, is, lexemes}
 use Rattle.qasm_lex.specs.declared.tokens.TokenKind.{TokenKind}
 use Rattle.qasm_lex.specs.declared.tokens.TokenKind.TheVariants as token
 use Rattle.qasm_lex.proofs.LeftLemmas.{stuck_left, tokens_left}
-use Rattle.qasm_reader.specs.Known.{Known}
+use Rattle.qasm_reader.specs.Known.{Known, circuit_of}
 use Rattle.qasm_reader.specs.Named.{stands_for}
 use Rattle.qasm_reader.specs.declared.state.State.{State}
 use Rattle.qasm_reader.specs.declared.angle.Phase.TheVariants.{Part}
 use Rattle.qasm_reader.specs.Angle.{angle_state}
-use Rattle.qasm_reader.specs.Expected.{Call, Expected, Next, ends_angle, of_gate, operand, within_angle}
+use Rattle.qasm_reader.specs.Expected.{Call, Expected, Next, between, ends_angle, of_gate, operand, within_angle}
 use Rattle.qasm_reader.specs.Reading.{Answer, IsRefusedAt, reads}
 
 -- Where no token begins, a string of one quote is read. It can stand nowhere.
@@ -73,3 +73,8 @@ IsFaultOf text NoMemory = Unit {0}
 abbrev pub behind_paren : Known → Call → Cursor → Option Cursor → Answer
 behind_paren k c here None = answer_from k (within_angle c (angle_state Part 0) []) here
 behind_paren k c here (Some rest) = answer_from k (operand (of_gate c)) rest
+
+-- the answer behind a statement, or where the text ended before one
+abbrev pub behind_statement : Known → Option Cursor → Answer
+behind_statement k None = Ok (circuit_of k)
+behind_statement k (Some rest) = answer_from k between rest

@@ -1,5 +1,6 @@
 -- The names that code keeps.
-use Rattle.std.specs.Prelude.{ℕ, List, Option}
+use Rattle.std.specs.Prelude.{ℕ, List, Option, None, Some, if◌then◌else◌}
+use Rattle.std.specs.Str.{bytes_eq}
 use Rattle.std.specs.Borrow.{Bor}
 use Rattle.std.specs.BTreeMap.{get_by}
 use Rattle.std.specs.Cmp.Lexicographic.{slice_cmp}
@@ -9,9 +10,12 @@ use Rattle.qasm_reader.specs.declared.kinds.Register.{Register}
 use Rattle.qasm_reader.specs.declared.names.Names.{Names}
 use Rattle.qasm_reader.specs.Gates.{Gate}
 
--- the register that a name stands for
+-- the register that a name stands for: that of the first name, or of one in the map
 abbrev pub stands_for : Names → List ℕ → Option Register
-stands_for names name = get_by (λ key. slice_cmp nat_cmp name key.items) names.map
+stands_for names name = elim names.first as (λ _. Option Register) [
+  | None ↦ get_by (λ key. slice_cmp nat_cmp name key.items) names.map
+  | Some f ↦ if bytes_eq name f.name.items then Some f.register else get_by (λ key. slice_cmp nat_cmp name key.items) names.map
+]
 
 -- the gate
 abbrev pub shape : KnownGate → Gate

@@ -4,11 +4,16 @@ use Rattle.std.specs.List.{list_any, range_with_len}
 use Rattle.qccd_base.specs.Names.{qubit, bit}
 use Rattle.qccd_circuit.specs.declared.kinds.ItemKind.TheVariants.{Measure, Reset, Barrier}
 use Rattle.qccd_circuit.specs.Item.{ItemData}
+use Rattle.qasm_reader.specs.declared.kinds.Cell.{Cell}
 use Rattle.qasm_reader.specs.declared.kinds.Operand.{Operand}
 use Rattle.qasm_reader.specs.Gates.{Gate, applied}
 
 abbrev pub is_whole : Operand → Bool
 is_whole o = is_none o.index
+
+-- a cell as an operand
+abbrev pub cell_operand : Cell → Operand
+cell_operand c = record { register = c.register; index = Some c.index }
 
 -- its cells, as numbers of qubits or bits
 abbrev pub cells : Operand → List ℕ

@@ -31,7 +31,7 @@ fn next_angle<'a>(cursor: &Cursor<'a>) -> Option<Cursor<'a>>
     ensures none { IfNone result (begins token.Comma (ahead cursor.now) ≡ false) }
 {
     match cursor.next_sign(TokenKind::Comma, b',') {
-        Some((_, rest)) => Some(rest),
+        Some(rest) => Some(rest),
         None => None,
     }
 }
@@ -166,7 +166,7 @@ fn open_paren<'a>(cursor: &Cursor<'a>) -> Option<Cursor<'a>>
     ensures none { IfNone result ((k : Known) (c : Call) → answer_from k (behind_gate c) cursor.now ≡ answer_from k (operand (of_gate (lacking c))) cursor.now) }
 {
     match cursor.next_sign(TokenKind::LParen, b'(') {
-        Some((_, rest)) => Some(rest),
+        Some(rest) => Some(rest),
         None => None,
     }
 }

@@ -72,6 +72,7 @@ const OTHERS: [(&[u8], u8, u8); 16] = [
 ];
 
 // The gate of this name among some.
+#[inline(always)]
 fn gate_in(gates: &[(&'static [u8], u8, u8)], name: &[u8]) -> Option<KnownGate>
     ensures { option_map shape result ≡ gate_in (map row_gate gates.now) name.now }
 {
@@ -101,6 +102,7 @@ fn begins_with_c(name: &[u8]) -> bool
 }
 
 // The gate of this name after the include. Those of its class alone are looked through.
+#[inline(always)]
 fn included_gate(name: &[u8]) -> Option<KnownGate>
     ensures { option_map shape result ≡ gate_of true name.now }
 {
@@ -114,6 +116,7 @@ fn included_gate(name: &[u8]) -> Option<KnownGate>
 }
 
 /// The gate of this name, before the include or after it.
+#[inline(always)]
 pub(crate) fn gate_of(included: bool, name: &[u8]) -> Option<KnownGate>
     ensures { option_map shape result ≡ gate_of included name.now }
 {

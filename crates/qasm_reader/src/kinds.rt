@@ -39,3 +39,11 @@ pub(crate) struct Operand {
     pub register: Register,
     pub index: Option<u16>,
 }
+
+/// A cell as an operand: its index in its register, and the byte of its first token.
+#[derive(Clone, Copy, Debug, PartialEq, Eq, Hash)]
+pub(crate) struct Cell {
+    pub at: u32,
+    pub register: Register,
+    pub index: u16,
+}

@@ -18,6 +18,7 @@ mod operands;
 mod pieces;
 mod reading;
 mod registers;
+mod short;
 mod state;
 mod statements;
 mod words;

@@ -5,12 +5,21 @@ ghost use Rattle.qasm_reader.specs.Known.{with_name};
 ghost use Rattle.qasm_reader.specs.Named.{stands_for};
 
 use crate::kinds::Register;
+use crate::words::same;
 use std::alloc::{AllocError, Global};
 use std::collections::BTreeMap;
 
-/// The registers by their names.
+/// A register with its name.
+#[derive(Drop)]
+pub(crate) struct Named {
+    pub(crate) name: Vec<u8>,
+    pub(crate) register: Register,
+}
+
+/// The registers by their names. The first that was declared stands beside the map: most circuits name no other.
 #[derive(Drop)]
 pub(crate) struct Names {
+    pub(crate) first: Option<Named>,
     pub(crate) map: BTreeMap<Vec<u8>, Register>,
 }
 
@@ -20,6 +29,7 @@ impl Names {
         ensures { stands_for result ≡ (λ _. None) }
     {
         Names {
+            first: None,
             map: BTreeMap::new(alloc),
         }
     }
@@ -29,6 +39,11 @@ impl Names {
     pub(crate) fn find(&self, name: &[u8]) -> Option<Register>
         ensures { result ≡ stands_for self.now name.now }
     {
+        if let Some(first) = &self.first {
+            if same(name, &first.name) {
+                return Some(first.register);
+            }
+        }
         self.map.get(name).copied()
     }
 
@@ -36,7 +51,16 @@ impl Names {
     pub(crate) fn add(&mut self, name: Vec<u8>, register: Register) -> Result<(), AllocError>
         ensures { OnOk result (stands_for self.new ≡ with_name name.items register (stands_for self.old)) }
     {
-        self.map.insert(name, register)?;
+        match &mut self.first {
+            None => self.first = Some(Named { name, register }),
+            Some(first) => {
+                if same(&name, &first.name) {
+                    first.register = register;
+                } else {
+                    self.map.insert(name, register)?;
+                }
+            }
+        }
         Ok(())
     }
 }

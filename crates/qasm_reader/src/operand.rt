@@ -55,16 +55,17 @@ fn operand_name<'a>(
     }
 }
 
-// What stands behind a `[`, if one is next.
+/// What stands behind a `[`, if one is next.
+#[inline(always)]
 #[tactic(auto, unfolding(crate::specs::Reading::reads))]
-fn open_bracket<'a>(cursor: &Cursor<'a>) -> Option<Cursor<'a>>
+pub(crate) fn open_bracket<'a>(cursor: &Cursor<'a>) -> Option<Cursor<'a>>
     ensures shorter { IfSome result (λ rest. length (ahead rest) < length (ahead cursor.now)) }
     ensures found { IfSome result (λ rest. (k : Known) (role : Role) (at : ℕ) (r : Register)
         → answer_from k (behind_name role at r) cursor.now ≡ answer_from k (expected.index role at r) rest) }
     ensures none { IfNone result (begins token.LBracket (ahead cursor.now) ≡ false) }
 {
     match cursor.next_sign(TokenKind::LBracket, b'[') {
-        Some((_, rest)) => Some(rest),
+        Some(rest) => Some(rest),
         None => None,
     }
 }
@@ -166,6 +167,7 @@ pub(crate) fn operand<'a>(
 }
 
 /// What stands behind a comma, if one is next.
+#[inline(always)]
 #[tactic(auto, unfolding(crate::specs::Reading::reads))]
 pub(crate) fn comma<'a>(cursor: &Cursor<'a>) -> Option<Cursor<'a>>
     ensures shorter { IfSome result (λ rest. length (ahead rest) < length (ahead cursor.now)) }
@@ -173,7 +175,7 @@ pub(crate) fn comma<'a>(cursor: &Cursor<'a>) -> Option<Cursor<'a>>
     ensures none { IfNone result (begins token.Comma (ahead cursor.now) ≡ false) }
 {
     match cursor.next_sign(TokenKind::Comma, b',') {
-        Some((_, rest)) => Some(rest),
+        Some(rest) => Some(rest),
         None => None,
     }
 }

@@ -1,6 +1,6 @@
 //! From a text to its circuit.
 
-ghost use Rattle.std.specs.Prelude.{◌≤◌, ◌≡◌, ◌⊎◌, ◌∷◌, IsErrAnd, Ok, IfErr, IfOk, List, MatchResult, length, ℕ};
+ghost use Rattle.std.specs.Prelude.{◌≤◌, ◌<◌, ◌≡◌, ◌⊎◌, ◌∷◌, IfSome, IsErrAnd, OnOk, Ok, IfErr, IfOk, List, MatchResult, length, ℕ};
 ghost use Rattle.qccd_circuit.specs.Circuit.{CircuitData};
 ghost use Rattle.qasm_reader.specs.declared.fault.QasmKind.{QasmKind};
 ghost use Rattle.qasm_reader.specs.declared.fault.QasmFault.TheVariants as fault;
@@ -9,11 +9,12 @@ ghost use Rattle.qasm_lex.specs.declared.tokens.TokenKind.{TokenKind};
 ghost use Rattle.qasm_reader.specs.Known.{Known, circuit_of, nothing};
 ghost use Rattle.qasm_reader.specs.Expected.{behind_header, between, header};
 ghost use Rattle.qasm_reader.specs.Sound.{IsSound};
-ghost use Rattle.qasm_reader.specs.Code.{IsFaultOf, Leads, Tells, answer_from, known, lexemes_left};
+ghost use Rattle.qasm_reader.specs.Code.{IsFaultOf, Leads, Tells, ahead, answer_from, behind_statement, known, lexemes_left};
 
 use crate::cursor::Cursor;
 use crate::fault::{QasmFault, QasmKind};
 use crate::pieces::refused;
+use crate::short::gate_on_cells;
 use crate::state::State;
 use crate::statements::statement;
 use crate::words::{is, same};
@@ -67,6 +68,44 @@ fn build(state: State) -> Circuit
     Circuit::of(qubits, bits, items)
 }
 
+// Takes the next statement, whatever it is. `None` tells that the text has ended.
+#[tactic(auto, unfolding(crate::specs::Reading::reads))]
+fn any_statement<'a>(
+    alloc: Global,
+    state: &mut State,
+    cursor: &Cursor<'a>,
+) -> Result<Option<Cursor<'a>>, QasmFault>
+    requires { IsSound (known state.old) }
+    ensures sound { OnOk result (IsSound (known state.new)) }
+    ensures shorter { IfOk result (λ o. IfSome o (λ rest. length (ahead rest) < length (ahead cursor.now))) }
+    ensures leads { Leads (answer_from (known state.old) between cursor.now) (behind_statement (known state.new)) result }
+{
+    match cursor.next() {
+        Some((first, rest)) => {
+            let rest = statement(alloc, state, &first, &rest)?;
+            Ok(Some(rest))
+        }
+        None => Ok(None),
+    }
+}
+
+// Takes the next statement, by the short way where it can be taken so.
+fn next_statement<'a>(
+    alloc: Global,
+    state: &mut State,
+    cursor: &Cursor<'a>,
+) -> Result<Option<Cursor<'a>>, QasmFault>
+    requires { IsSound (known state.old) }
+    ensures sound { OnOk result (IsSound (known state.new)) }
+    ensures shorter { IfOk result (λ o. IfSome o (λ rest. length (ahead rest) < length (ahead cursor.now))) }
+    ensures leads { Leads (answer_from (known state.old) between cursor.now) (behind_statement (known state.new)) result }
+{
+    match gate_on_cells(alloc, state, cursor)? {
+        Some(rest) => Ok(Some(rest)),
+        None => any_statement(alloc, state, cursor),
+    }
+}
+
 // The circuit of the tokens.
 #[tactic(auto, unfolding(crate::specs::Reading::reads))]
 fn circuit_from(alloc: Global, cursor: &Cursor<'_>) -> Result<Circuit, QasmFault>
@@ -74,8 +113,8 @@ fn circuit_from(alloc: Global, cursor: &Cursor<'_>) -> Result<Circuit, QasmFault
 {
     let mut state = State::new(alloc);
     let mut rest = header(cursor)?;
-    while let Some((first, behind)) = rest.next() {
-        rest = statement(alloc, &mut state, &first, &behind)?;
+    while let Some(behind) = next_statement(alloc, &mut state, &rest)? {
+        rest = behind;
     }
     Ok(build(state))
 }

@@ -17,7 +17,16 @@ pub(crate) fn same(word: &[u8], other: &[u8]) -> bool
 }
 
 // Whether the word may not be a name.
+#[inline(always)]
 fn is_reserved(word: &[u8]) -> bool
+    ensures { result ≡ is_reserved word.now }
+{
+    // Most names are one letter, and no reserved word is.
+    word.len() != 1 && is_among_reserved(word)
+}
+
+// The same, by all reserved words.
+fn is_among_reserved(word: &[u8]) -> bool
     ensures { result ≡ is_reserved word.now }
 {
     same(word, b"include")

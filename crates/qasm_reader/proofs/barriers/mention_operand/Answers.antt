@@ -1,8 +1,8 @@
 -- The cells are a range from the first on.
-use Rattle.std.proofs.Common.{◌≡◌, ℕ, ◌+◌, ◌<◌, ◌≤◌, List, length, sym, ap, subst, ◌∙◌, arith}
+use Rattle.std.proofs.Common.{◌≡◌, sym, ap, subst, ◌∙◌, arith}
 use Rattle.std.specs.List.{range_with_len}
 use Rattle.std.proofs.Math.ListN.{set}
-use Rattle.qasm_reader.specs.Operand.{cell_count, cells, first_cell, with_mentions}
+use Rattle.qasm_reader.specs.Operand.{cells, with_mentions}
 use Rattle.qasm_reader.specs.Mentioned.{AreReached, numbers}
 use Rattle.qasm_reader.proofs.Reached.{all_there, cells_are, reached_next}
 use Rattle.qasm_reader.proofs.barriers.mention_operand.Goals as goal

@@ -7,12 +7,12 @@ use Rattle.qasm_reader.specs.Code.{ahead, answer_from, known}
 use Rattle.qasm_reader.proofs.reading.circuit_from.Given as goal
 
 -- the answer is that behind the statements so far
-abbrev pub invariant-loop-first : goal.invariant-loop-first
-invariant-loop-first l =
+abbrev pub invariant-loop-state : goal.invariant-loop-state
+invariant-loop-state l =
     record {
       sound : IsSound (known l.state);
       leads : answer_from nothing (header heading) l.fn.cursor ≡ answer_from (known l.state) between l.rest;
     }
 
-abbrev pub decreases-loop-first : goal.decreases-loop-first
-decreases-loop-first l = length (ahead l.rest)
+abbrev pub decreases-loop-state : goal.decreases-loop-state
+decreases-loop-state l = length (ahead l.rest)

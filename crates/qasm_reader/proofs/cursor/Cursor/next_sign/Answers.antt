@@ -1,24 +1,22 @@
 -- The sign is the next token, or no token of its kind is.
-use Rattle.std.proofs.Common.{◌≡◌, ◌∷◌, ap, length, arith}
-use Rattle.qasm_reader.specs.Lexeme.{lexeme}
-use Rattle.qasm_reader.specs.Code.{lexemes_left}
-use Rattle.qasm_reader.proofs.Lexed.{lexed_next}
-use Rattle.qasm_reader.proofs.Signs.{of_kind, other_first}
+use Rattle.std.proofs.Common.{ap, length, arith}
+use Rattle.qasm_reader.proofs.Signs.{lexed_sign, other_sign}
 use Rattle.qasm_reader.proofs.cursor.Cursor.next_sign.Goals as goal
 
 pub returns-in-Some-clause-some : goal.returns-in-Some-clause-some
-returns-in-Some-clause-some c = lexed_next c.args.self.now.text.now c.args.self.now.place c.in-Some.token c.in-Some.ensures.found
-
-pub returns-in-Some-clause-kind : goal.returns-in-Some-clause-kind
-returns-in-Some-clause-kind c = of_kind c.args.kind c.in-Some.token.kind c.in-Some.ensures.kind
+returns-in-Some-clause-some c =
+    lexed_sign c.args.self.now.text.now c.args.self.now.place c.args.kind c.args.byte c.in-Some.token c.requires.alone c.requires.sign c.in-Some.ensures.found
+    c.in-Some.ensures.each c.in-Some.ensures.kind
 
 pub returns-in-Some-clause-shorter : goal.returns-in-Some-clause-shorter
 returns-in-Some-clause-shorter c =
     let text = c.args.self.now.text.now in
     let t = c.in-Some.token in
-    let some : lexemes_left text c.args.self.now.place ≡ lexeme text t ∷ lexemes_left text t.end = lexed_next text c.args.self.now.place t c.in-Some.ensures.found in
+    let some =
+    lexed_sign text c.args.self.now.place c.args.kind c.args.byte t c.requires.alone c.requires.sign c.in-Some.ensures.found c.in-Some.ensures.each
+    c.in-Some.ensures.kind in
     omega (arith, ap length some)
 
 pub returns-in-None-clause-none : goal.returns-in-None-clause-none
 returns-in-None-clause-none c =
-    other_first c.args.self.now.text.now c.args.self.now.place c.args.kind c.args.byte c.requires.alone c.requires.sign c.in-None.ensures.none
+    other_sign c.args.self.now.text.now c.args.self.now.place c.args.kind c.args.byte c.requires.alone c.requires.sign c.in-None.ensures.none
