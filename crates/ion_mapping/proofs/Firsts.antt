@@ -78,7 +78,7 @@ absent_in_item n k (q ∷ qubits) all past =
     let off : eqb q.0 k ≡ false = ne_eqb q.0 k (λ same. absurd (omega (arith, less))) in
     rw off (absent_in_item n k qubits (λ i d there. all (suc i) d (omega arith)) past)
 
-absent : (n bits k : ℕ) (items : List ItemData) → All (IsWithin n bits) items → n ≤ k → has (uses items) k ≡ false
+pub absent : (n bits k : ℕ) (items : List ItemData) → All (IsWithin n bits) items → n ≤ k → has (uses items) k ≡ false
 absent n bits k [] all past = refl
 absent n bits k (item ∷ items) all past =
     has-append (map (λ q. q.0) item.qubits) (uses items) k
@@ -94,17 +94,17 @@ use_once c k circuit = firsts_once (uses c.items ++ range_with_len 0 c.qubits) k
 -- ---- a list that has each number below n once, and no other, is that long
 
 -- whether x is one of the n numbers from a on
-abbrev is_within : ℕ → ℕ → ℕ → Bool
+abbrev pub is_within : ℕ → ℕ → ℕ → Bool
 is_within a n x = not (nat_lt x a) && nat_lt x (a + n)
 
 within_next : (a n x : ℕ) → cond {A = ℕ} (is_within a (suc n) x) 1 0 ≡ cond (x == a) 1 0 + cond (is_within (a + 1) n x) 1 0
 within_next a n x = grind (arith, nat_tests)
 
-within_split : (a n : ℕ) (xs : List ℕ) → count_by (is_within a (suc n)) xs ≡ times xs a + count_by (is_within (a + 1) n) xs
+pub within_split : (a n : ℕ) (xs : List ℕ) → count_by (is_within a (suc n)) xs ≡ times xs a + count_by (is_within (a + 1) n) xs
 within_split a n [] = refl
 within_split a n (x ∷ xs) = omega (arith, within_split a n xs, within_next a n x, count-cons (is_within a (suc n)) x xs, count-cons (is_within (a + 1) n) x xs, times-cons x xs a)
 
-within_none : (a : ℕ) (xs : List ℕ) → count_by (is_within a 0) xs ≡ 0
+pub within_none : (a : ℕ) (xs : List ℕ) → count_by (is_within a 0) xs ≡ 0
 within_none a [] = refl
 within_none a (x ∷ xs) =
     let off : cond {A = ℕ} (is_within a 0 x) 1 0 ≡ 0 = grind (arith, nat_tests) in
@@ -114,7 +114,7 @@ within_all : (xs : List ℕ) (a n : ℕ) → ((k : ℕ) → a ≤ k → k < a + 
 within_all xs a zero once = within_none a xs
 within_all xs a (suc n) once = omega (arith, within_split a n xs, once a (omega arith) (omega arith), within_all xs (a + 1) n (λ k low high. once k (omega arith) (omega arith)))
 
-all_within : (n : ℕ) (xs : List ℕ) → ((k : ℕ) → n ≤ k → times xs k ≡ 0) → count_by (is_within 0 n) xs ≡ length xs
+pub all_within : (n : ℕ) (xs : List ℕ) → ((k : ℕ) → n ≤ k → times xs k ≡ 0) → count_by (is_within 0 n) xs ≡ length xs
 all_within n [] none = refl
 all_within n (x ∷ xs) none = elim (cases_lt x n) [
   | inl less ↦

@@ -1,3 +1,4 @@
 pub mod Firsts
 pub mod Filling
 pub mod Steps
+pub mod Full

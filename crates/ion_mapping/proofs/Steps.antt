@@ -90,17 +90,9 @@ small_qubits c i item circuit is = λ k q there.
     let within : IsWithin c.qubits c.bits item = subst (IsWithin c.qubits c.bits) (get_or_from_slice_get c.items i item item is) (circuit.within i item (slice_get_within c.items i item is)) in
     omega (arith, within.qubits_below k q there, circuit.few_qubits)
 
-pub item_taken : (items : List ItemData) (i : ℕ) (item : ItemData) (taken new whole : List ℕ) → slice_get items i ≡ Some item → new ≡ with_numbers taken (map (λ q. q.0) item.qubits)
-    → with_numbers taken (uses (drop i items)) ≡ whole → with_numbers new (uses (drop (i + 1) items)) ≡ whole
-item_taken items i item taken new whole is more all =
-    ap (λ ns. with_numbers ns (uses (drop (i + 1) items))) more ∙ sym (with_numbers-append taken (map (λ q. q.0) item.qubits) (uses (drop (i + 1) items)))
-    ∙ ap (with_numbers taken) (sym (ap uses (drop_there items i item is))) ∙ all
-
-pub items_taken : (c : CircuitData) (i : ℕ) (taken : List ℕ) → length c.items ≤ i → with_numbers taken (uses (drop i c.items)) ≡ with_numbers [] (uses c.items)
-    → with_numbers taken (range_with_len 0 (c.qubits - 0)) ≡ with_numbers [] (uses c.items ++ range_with_len 0 c.qubits)
-items_taken c i taken past all =
+pub used_taken : (c : CircuitData) (taken : List ℕ) → taken ≡ with_numbers [] (uses c.items) → with_numbers taken (range_with_len 0 (c.qubits - 0)) ≡ with_numbers [] (uses c.items ++ range_with_len 0 c.qubits)
+used_taken c taken whole =
     let rest : c.qubits - 0 ≡ c.qubits = omega arith in
-    let whole : taken ≡ with_numbers [] (uses c.items) = ap (with_numbers taken) (sym (ap uses (drop_past i c.items past))) ∙ all in
     ap (λ n. with_numbers taken (range_with_len 0 n)) rest ∙ ap (λ ns. with_numbers ns (range_with_len 0 c.qubits)) whole ∙ sym (with_numbers-append [] (uses c.items) (range_with_len 0 c.qubits))
 
 pub number_taken : (n k : ℕ) (taken new whole : List ℕ) → k < n → new ≡ with_number taken k → with_numbers taken (range_with_len k (n - k)) ≡ whole → with_numbers new (range_with_len (k + 1) (n - (k + 1))) ≡ whole

@@ -1,10 +1,11 @@
 //! The chains at the start: qubits in the order of their first use, traps filled in the order of their numbers.
 
-ghost use Rattle.std.specs.Prelude.{◌≡◌, ◌≢◌, ◌+◌, ◌-◌, ◌<◌, ◌≤◌, max, IfErr, IfOk, Err, map, sum};
+ghost use Rattle.std.specs.Prelude.{◌≡◌, ◌≢◌, ◌+◌, ◌-◌, ◌<◌, ◌≤◌, max, [], IfErr, IfOk, OnOk, Err, map, sum};
 ghost use Rattle.qccd_base.specs.Names.{ion};
 ghost use Rattle.qccd_machine.specs.Machine.{slots_of};
 ghost use Rattle.ion_mapping.specs.declared.fault.MapFault.TheVariants as fault;
-ghost use Rattle.ion_mapping.specs.Placement.{by_use, filled, fills, placed, spared};
+ghost use Rattle.ion_mapping.specs.Placement.{by_use, filled, fills, placed, spared, uses};
+ghost use Rattle.ion_mapping.specs.Taking.{with_numbers};
 
 use crate::fault::MapFault;
 use crate::taking::Taking;
@@ -42,14 +43,30 @@ pub fn place(alloc: Global, circuit: &Circuit, machine: &Machine) -> Result<Vec<
 fn ions_by_use(alloc: Global, circuit: &Circuit) -> Result<Vec<Ion>, NoMemory>
     ensures { IfOk result (λ ions. ions.items ≡ map ion (by_use circuit.now)) }
 {
+    // There are not too many qubits, as the contract of the items tells.
+    let _items = circuit.items();
     let mut taking = Taking::with_room(alloc, circuit.qubits())?;
-    for item in circuit.items() {
-        taking.take_all(item.qubits().as_slice())?;
-    }
+    take_used(&mut taking, circuit)?;
     for number in 0..circuit.qubits() {
         taking.take(Qubit(number))?;
     }
     Ok(taking.into_ions())
+}
+
+// The qubits that the items name, in turn. Once all of the circuit are taken, the items that are left are not
+// looked at, since they name no other.
+fn take_used(taking: &mut Taking, circuit: &Circuit) -> Result<(), NoMemory>
+    requires { taking.old ≡ [] }
+    ensures { OnOk result (taking.new ≡ with_numbers [] (uses circuit.now.items)) }
+{
+    let items = circuit.items();
+    let qubits = usize::from(circuit.qubits());
+    let mut done = 0;
+    while done < items.len() && taking.len() < qubits {
+        taking.take_all(items[done].qubits().as_slice())?;
+        done += 1;
+    }
+    Ok(())
 }
 
 // How many places are spared in each trap.

@@ -1,6 +1,6 @@
 //! Qubits that are taken as they come, each once.
 
-ghost use Rattle.std.specs.Prelude.{◌≡◌, ◌<◌, [], All, IfOk, OnOk, map};
+ghost use Rattle.std.specs.Prelude.{◌≡◌, ◌<◌, [], All, IfOk, OnOk, length, map};
 ghost use Rattle.ion_mapping.specs.Taking.{with_number, with_numbers};
 
 use qccd_base::{Ion, NoMemory, Qubit};
@@ -34,6 +34,13 @@ impl Taking {
             ions: Vec::with_capacity(alloc, usize::from(room))?,
             marks: [false; 256],
         })
+    }
+
+    /// How many qubits are taken.
+    pub fn len(&self) -> usize
+        ensures { result ≡ length self.now }
+    {
+        self.ions.len()
     }
 
     /// Takes the qubit, where it was not taken before.
