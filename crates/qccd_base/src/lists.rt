@@ -52,7 +52,8 @@ impl IonList {
     }
 }
 
-/// Qubits in order, as the operands of a gate. Up to eight take no memory of their own.
+/// Qubits in order, as the operands of a gate. Up to eight take no memory of their own, unless the list is made of a
+/// vector that has more room: it keeps that vector's memory.
 #[derive(Debug, Drop)]
 pub struct QubitList {
     qubits: SmallVec<Qubit, 8>,
@@ -215,8 +216,8 @@ impl TrapList {
     }
 }
 
-/// Positions in a chain, counted from 0 at the left, in the order of the operands. Up to sixteen take no
-/// memory of their own.
+/// Positions in a chain, counted from 0 at the left, in the order of the operands. Up to sixteen take no memory of
+/// their own, unless the list is made of a vector that has more room: it keeps that vector's memory.
 #[derive(Debug, Drop)]
 pub struct PosList {
     positions: SmallVec<u8, 16>,

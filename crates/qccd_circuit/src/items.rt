@@ -8,6 +8,7 @@ ghost use Rattle.qccd_circuit.specs.Operands.{operands_of};
 use crate::kinds::{Cond, ItemKind};
 use crate::texts::{AngleList, Name};
 use qccd_base::{Bit, BitList, NoMemory, Qubit, QubitList};
+use std::alloc::Global;
 use std::marker::Model;
 
 // The condition of an item that has none.
@@ -138,6 +139,8 @@ impl Item {
     }
 
     /// An equal item.
+    // Inlined, the copy is made where it goes.
+    #[inline(always)]
     pub fn copy(&self) -> Result<Item, NoMemory>
         ensures { IfOk result (λ item. item ≡ self.now) }
     {
@@ -145,7 +148,7 @@ impl Item {
         let name = self.name.copy()?;
         let angles = self.angles.copy()?;
         let qubits = QubitList::from_slice(alloc, self.qubits.as_slice())?;
-        let bits = Vec::from_slice(alloc, self.bits.as_slice())?;
+        let bits = copied(alloc, self.bits.as_slice())?;
         Ok(Item {
             kind: self.kind,
             name,
@@ -164,6 +167,18 @@ impl Item {
             && bits_below(self.bits.as_slice(), bits)
             && cond_below(self.cond(), bits)
     }
+}
+
+// The same bits. Most items write none.
+#[inline(always)]
+fn copied(alloc: Global, bits: &[Bit]) -> Result<Vec<Bit>, NoMemory>
+    ensures { IfOk result (λ copy. copy.items ≡ bits.now) }
+{
+    if bits.is_empty() {
+        return Ok(Vec::new(alloc));
+    }
+    let copy = Vec::from_slice(alloc, bits)?;
+    Ok(copy)
 }
 
 // The first of the bits that the condition reads, and how many there are.

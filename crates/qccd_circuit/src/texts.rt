@@ -7,7 +7,8 @@ use smallvec::SmallVec;
 use std::alloc::Global;
 use std::marker::Model;
 
-/// The name of an item, as `h` or `measure`. One of up to sixteen bytes takes no memory of its own.
+/// The name of an item, as `h` or `measure`. One of up to sixteen bytes takes no memory of its own, unless it is made of
+/// a vector that has more room: it keeps that vector's memory.
 #[derive(Debug, Drop)]
 pub struct Name {
     bytes: SmallVec<u8, 16>,
@@ -73,8 +74,8 @@ impl Name {
     }
 }
 
-/// An angle of a gate, as the text that the circuit was written with. One of up to sixteen bytes takes no
-/// memory of its own.
+/// An angle of a gate, as the text that the circuit was written with. One of up to sixteen bytes takes no memory of its
+/// own, unless it is made of a vector that has more room: it keeps that vector's memory.
 #[derive(Debug, Drop)]
 pub struct Angle {
     bytes: SmallVec<u8, 16>,
