@@ -14,7 +14,7 @@ ghost use Rattle.qasm_reader.specs.Code.{IsFaultOf, Leads, Tells, ahead, answer_
 use crate::cursor::Cursor;
 use crate::fault::{QasmFault, QasmKind};
 use crate::pieces::refused;
-use crate::short::gate_on_cells;
+use crate::short::gates_on_cells;
 use crate::state::State;
 use crate::statements::statement;
 use crate::words::{is, same};
@@ -89,8 +89,8 @@ fn any_statement<'a>(
     }
 }
 
-// Takes the next statement, by the short way where it can be taken so.
-fn next_statement<'a>(
+// Takes the statements up to one that no short way is for, and that one. `None` tells that the text has ended.
+fn next_statements<'a>(
     alloc: Global,
     state: &mut State,
     cursor: &Cursor<'a>,
@@ -100,10 +100,8 @@ fn next_statement<'a>(
     ensures shorter { IfOk result (λ o. IfSome o (λ rest. length (ahead rest) < length (ahead cursor.now))) }
     ensures leads { Leads (answer_from (known state.old) between cursor.now) (behind_statement (known state.new)) result }
 {
-    match gate_on_cells(alloc, state, cursor)? {
-        Some(rest) => Ok(Some(rest)),
-        None => any_statement(alloc, state, cursor),
-    }
+    let rest = gates_on_cells(alloc, state, cursor)?;
+    any_statement(alloc, state, &rest)
 }
 
 // The circuit of the tokens.
@@ -113,7 +111,7 @@ fn circuit_from(alloc: Global, cursor: &Cursor<'_>) -> Result<Circuit, QasmFault
 {
     let mut state = State::new(alloc);
     let mut rest = header(cursor)?;
-    while let Some(behind) = next_statement(alloc, &mut state, &rest)? {
+    while let Some(behind) = next_statements(alloc, &mut state, &rest)? {
         rest = behind;
     }
     Ok(build(state))

@@ -1,7 +1,7 @@
 //! The short way through the statements of which circuits mostly are: a known gate without angles on one or two cells.
 //! Whatever is not of this form goes the way of all statements.
 
-ghost use Rattle.std.specs.Prelude.{◌≡◌, ℕ, ◌<◌, ◌∷◌, [], IfNone, IfOk, IfSome, None, OnOk, Some, false, length};
+ghost use Rattle.std.specs.Prelude.{◌≡◌, ℕ, ◌<◌, ◌≤◌, ◌∷◌, [], IfNone, IfOk, IfSome, None, OnOk, Some, false, length};
 ghost use Rattle.qccd_base.specs.Names.{qubit};
 ghost use Rattle.qccd_circuit.specs.Item.{Fits};
 ghost use Rattle.qasm_reader.specs.declared.kinds.Operand.{Operand};
@@ -221,9 +221,10 @@ fn end_of_two<'a>(
     }
 }
 
-/// Takes the application of a gate without angles on one or two cells, if that is what is next and nothing is wrong with
-/// it; and else nothing, and the state stays as it was.
-pub(crate) fn gate_on_cells<'a>(
+// Takes the application of a gate without angles on one or two cells, if that is what is next and nothing is wrong with
+// it; and else nothing, and the state stays as it was.
+#[inline(always)]
+fn gate_on_cells<'a>(
     alloc: Global,
     state: &mut State,
     cursor: &Cursor<'a>,
@@ -247,4 +248,22 @@ pub(crate) fn gate_on_cells<'a>(
         Some((second, rest)) => end_of_two(alloc, state, &gate, &first, &second, &rest),
         None => Ok(None),
     }
+}
+
+/// Takes the applications of gates that are next, as many of this form as follow one another.
+pub(crate) fn gates_on_cells<'a>(
+    alloc: Global,
+    state: &mut State,
+    cursor: &Cursor<'a>,
+) -> Result<Cursor<'a>, NoMemory>
+    requires sound { IsSound (known state.old) }
+    ensures sound { OnOk result (IsSound (known state.new)) }
+    ensures shorter { IfOk result (λ rest. length (ahead rest) ≤ length (ahead cursor.now)) }
+    ensures leads { IfOk result (λ rest. answer_from (known state.old) between cursor.now ≡ answer_from (known state.new) between rest) }
+{
+    let mut rest = *cursor;
+    while let Some(behind) = gate_on_cells(alloc, state, &rest)? {
+        rest = behind;
+    }
+    Ok(rest)
 }
