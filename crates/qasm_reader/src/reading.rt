@@ -22,6 +22,11 @@ use qasm_lex::{LexFault, TokenKind, check};
 use qccd_circuit::Circuit;
 use std::alloc::Global;
 
+// The bytes of a short statement, and the most items.
+const STATEMENT_BYTES: usize = 7;
+
+const ITEMS: usize = 65536;
+
 // Takes one of the first tokens.
 #[tactic(auto, unfolding(crate::specs::Reading::reads))]
 fn header_token<'a>(
@@ -104,12 +109,20 @@ fn next_statements<'a>(
     any_statement(alloc, state, &rest)
 }
 
+// For how many items room is made at first. A gate's statement has seven bytes or more, so most texts find room for all
+// their items; where one has more of them, for it names whole registers, further room is made as it is read.
+fn room(text: &[u8]) -> usize
+    ensures { result ≤ 65536 }
+{
+    (text.len() / STATEMENT_BYTES).min(ITEMS)
+}
+
 // The circuit of the tokens.
 #[tactic(auto, unfolding(crate::specs::Reading::reads))]
 fn circuit_from(alloc: Global, cursor: &Cursor<'_>) -> Result<Circuit, QasmFault>
     ensures { Leads (answer_from nothing (header heading) cursor.now) (λ c. Ok c) result }
 {
-    let mut state = State::new(alloc);
+    let mut state = State::new(alloc, room(cursor.text))?;
     let mut rest = header(cursor)?;
     while let Some(behind) = next_statements(alloc, &mut state, &rest)? {
         rest = behind;

@@ -1,10 +1,11 @@
 //! What the statements so far have made known.
 
-ghost use Rattle.std.specs.Prelude.{◌≡◌};
+ghost use Rattle.std.specs.Prelude.{◌≡◌, IfOk};
 ghost use Rattle.qasm_reader.specs.Known.{nothing};
 ghost use Rattle.qasm_reader.specs.Code.{known};
 
 use crate::names::Names;
+use qccd_base::NoMemory;
 use qccd_circuit::Item;
 use std::alloc::Global;
 
@@ -19,16 +20,17 @@ pub(crate) struct State {
 }
 
 impl State {
-    /// Nothing is known yet.
-    pub(crate) fn new(alloc: Global) -> State
-        ensures { known result ≡ nothing }
+    /// Nothing is known yet, and there is room for so many items.
+    pub(crate) fn new(alloc: Global, room: usize) -> Result<State, NoMemory>
+        ensures { IfOk result (λ state. known state ≡ nothing) }
     {
-        State {
+        let items = Vec::with_capacity(alloc, room)?;
+        Ok(State {
             included: false,
             qubits: 0,
             bits: 0,
             names: Names::new(alloc),
-            items: Vec::new(alloc),
-        }
+            items,
+        })
     }
 }

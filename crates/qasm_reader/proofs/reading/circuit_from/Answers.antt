@@ -10,6 +10,6 @@ use Rattle.qasm_reader.proofs.reading.circuit_from.Goals as goal
 pub loop-state-init : goal.loop-state-init
 loop-state-init c =
     record {
-      sound = subst IsSound (sym c.new-state.ensures) nothing_sound;
-      leads = c.in_ok-rest.ensures ∙ ap (λ (k : Known). answer_from k between c.in_ok-rest.rest) (sym c.new-state.ensures);
+      sound = subst IsSound (sym c.in_ok-state.ensures) nothing_sound;
+      leads = c.in_ok-rest.ensures ∙ ap (λ (k : Known). answer_from k between c.in_ok-rest.rest) (sym c.in_ok-state.ensures);
     }
