@@ -4,18 +4,18 @@
 #
 #   bench/deck_speed.sh
 #
-# The program is crates/deck_rows, which `rt run` in its folder proves and builds. Its 65,536 gates stand in four
+# The program is crates/rows_deck, which `rt run` in its folder proves and builds. Its 65,536 gates stand in four
 # traps in turn, and there are sixteen decks, one after another. What it takes to make the cells or the decks, to
 # start the threads and to close is measured alone and taken off.
 set -u
 here=$(cd "$(dirname "$0")" && pwd) || exit 1
-program=$here/../crates/deck_rows/out/deck_rows
+program=$here/../crates/rows_deck/out/rows_deck
 gates=16384
 times=16
 rounds=9
 
 if ! [ -x "$program" ]; then
-    echo "the program is not built yet: call rt run in crates/deck_rows once" >&2
+    echo "the program is not built yet: call rt run in crates/rows_deck once" >&2
     exit 1
 fi
 

@@ -14,7 +14,7 @@ use Rattle.qccd_machine.specs.declared.place.Place.TheVariants.{TrapEnd, Junctio
 use Rattle.qccd_machine.specs.Machine.{MachineData}
 use Rattle.time_heat.specs.Heat.{split_ion_heat}
 use Rattle.op_table.specs.declared.kinds.OpKind.TheVariants.{Split, Move, Enter, Leave, Merge}
-use Rattle.op_table.specs.State.{IonPlace, InTrap, OnSegment, InJunction, Stand, State, is_on_segment, is_in_junction, ions_in, rider_on, rider_in, heat_of}
+use Rattle.op_table.specs.State.{IonPlace, InTrap, OnSegment, InJunction, Stand, State, is_on_segment, is_in_junction, ions_in, ion_on_segment, ion_in_junction, heat_of}
 use Rattle.op_table.specs.Step.{why, effect, end_at, has_trap, has_segment, has_junction, rider_stands, same_seg_end, other_end, split_place}
 use Rattle.chain_reorder.specs.Layout.{Layout, Lies, listed, with_at, riding, end_on, joined, settled, on_segment, in_junction}
 use Rattle.chain_reorder.proofs.Lists.{found}
@@ -50,11 +50,11 @@ find_passes p (y ∷ ys) x h = elim (cases_Bool (p y)) [
   | inr not_y ↦ find_passes p ys x (rw not_y at h)
 ]
 
-pub no_rider : (s : State) (l : Layout) (g : ℕ) → Lies s l → l.riders g ≡ None → rider_on s g ≡ None
-no_rider s l g lies free = none_mapped riding (rider_on s g) (found riding (λ (w : Stand). is_on_segment g w.place) s.ions None (lies.riders g ∙ ap listed free))
+pub no_rider : (s : State) (l : Layout) (g : ℕ) → Lies s l → l.riders g ≡ None → ion_on_segment s g ≡ None
+no_rider s l g lies free = none_mapped riding (ion_on_segment s g) (found riding (λ (w : Stand). is_on_segment g w.place) s.ions None (lies.riders g ∙ ap listed free))
 
-pub no_carry : (s : State) (l : Layout) (j : ℕ) → Lies s l → l.carries j ≡ None → rider_in s j ≡ None
-no_carry s l j lies free = none_mapped (λ (w : Stand). w.qubit) (rider_in s j) (found (λ (w : Stand). w.qubit) (λ (w : Stand). is_in_junction j w.place) s.ions None (lies.carries j ∙ ap listed free))
+pub no_carry : (s : State) (l : Layout) (j : ℕ) → Lies s l → l.carries j ≡ None → ion_in_junction s j ≡ None
+no_carry s l j lies free = none_mapped (λ (w : Stand). w.qubit) (ion_in_junction s j) (found (λ (w : Stand). w.qubit) (λ (w : Stand). is_in_junction j w.place) s.ions None (lies.carries j ∙ ap listed free))
 
 same_end_own : (e : SegEnd) → same_seg_end e e ≡ true
 same_end_own A = refl
@@ -69,15 +69,15 @@ stands g e q (Some w) passes h = (refl, stands_place w.place (passes w refl) (le
     stands_place (OnSegment s f h) on end = subst (λ x. same_seg_end x f ≡ true) end (same_end_own f)
     stands_place (InJunction j h) on end = cc
 
-rider : (s : State) (l : Layout) (g : ℕ) (e : SegEnd) (q : Qubit) → Lies s l → l.riders g ≡ Some (e, q) → (is_some (rider_on s g) ≡ true) × (rider_stands (Some e) (rider_on s g) ≡ true)
-rider s l g e q lies on = stands g e q (rider_on s g) (find_passes (λ (w : Stand). is_on_segment g w.place) s.ions) (found riding (λ (w : Stand). is_on_segment g w.place) s.ions (Some (e, q)) (lies.riders g ∙ ap listed on))
+rider : (s : State) (l : Layout) (g : ℕ) (e : SegEnd) (q : Qubit) → Lies s l → l.riders g ≡ Some (e, q) → (is_some (ion_on_segment s g) ≡ true) × (rider_stands (Some e) (ion_on_segment s g) ≡ true)
+rider s l g e q lies on = stands g e q (ion_on_segment s g) (find_passes (λ (w : Stand). is_on_segment g w.place) s.ions) (found riding (λ (w : Stand). is_on_segment g w.place) s.ions (Some (e, q)) (lies.riders g ∙ ap listed on))
 
 some_mapped : {X Y : Type 0} (v : X → Y) (o : Option X) (y : Y) → option_map v o ≡ Some y → is_some o ≡ true
 some_mapped v None y h = cc
 some_mapped v (Some x) y h = refl
 
-carried : (s : State) (l : Layout) (j : ℕ) (q : Qubit) → Lies s l → l.carries j ≡ Some q → is_some (rider_in s j) ≡ true
-carried s l j q lies held = some_mapped (λ (w : Stand). w.qubit) (rider_in s j) q (found (λ (w : Stand). w.qubit) (λ (w : Stand). is_in_junction j w.place) s.ions (Some q) (lies.carries j ∙ ap listed held))
+carried : (s : State) (l : Layout) (j : ℕ) (q : Qubit) → Lies s l → l.carries j ≡ Some q → is_some (ion_in_junction s j) ≡ true
+carried s l j q lies held = some_mapped (λ (w : Stand). w.qubit) (ion_in_junction s j) q (found (λ (w : Stand). w.qubit) (λ (w : Stand). is_in_junction j w.place) s.ions (Some q) (lies.carries j ∙ ap listed held))
 
 -- ---- the five operations
 
@@ -86,8 +86,8 @@ pub off_junction : (m : MachineData) (s : State) (cs : ℕ → List Qubit) (j : 
 off_junction m s cs j g e q there junction_there end lies =
     let l : Layout = in_junction cs j.0 q in
     let held : l.carries j.0 ≡ Some q = at_own j.0 j.0 (Some q) (λ _. None) (eqb_same j.0) in
-    let free : rider_on s g ≡ None = no_rider s l g lies refl in
-    let has : is_some (rider_in s j.0) ≡ true = carried s l j.0 q lies held in (
+    let free : ion_on_segment s g ≡ None = no_rider s l g lies refl in
+    let has : is_some (ion_in_junction s j.0) ≡ true = carried s l j.0 q lies held in (
       rw (there, junction_there, has, free, end) refl,
       lies_as (effect m s (Leave j (segment g))) (record l { riders = with_at g (Some (e, q)) l.riders; carries = with_at j.0 None l.carries }) (on_segment cs g e q)
           (lies_exited s (effect m s (Leave j (segment g))) l g j.0 e q (ap (λ o. map (replaced (exit_place g j.0 (unwrap_or o A))) s.ions) end) lies held refl)
@@ -98,7 +98,7 @@ pub off_trap : (m : MachineData) (s : State) (cs : ℕ → List Qubit) (t : Trap
     → cs t.0 ≡ joined end q rest
     → Lies s (settled cs) → (why m s (Split t end (segment g)) ≡ None) × Lies (effect m s (Split t end (segment g))) (on_segment (with_at t.0 rest cs) g e q)
 off_trap m s cs t g e end q rest there trap_there is_end chain lies =
-    let free : rider_on s g ≡ None = no_rider s (settled cs) g lies refl in
+    let free : ion_on_segment s g ≡ None = no_rider s (settled cs) g lies refl in
     let some : ltb 0 (ions_in s t.0) ≡ true = rw (lies.counts t.0, chain) (some_joined end q rest) in (
       rw (there, trap_there, some, free, is_end) refl,
       lies_split_off s (effect m s (Split t end (segment g))) (settled cs) t.0 g (split_ion_heat (heat_of s t.0) (ions_in s t.0)) e end q rest
@@ -115,7 +115,7 @@ pub over_segment : (m : MachineData) (s : State) (cs : ℕ → List Qubit) (g : 
 over_segment m s cs g e q there lies =
     let l : Layout = on_segment cs g e q in
     let on : l.riders g ≡ Some (e, q) = at_own g g (Some (e, q)) (λ _. None) (eqb_same g) in
-    let has : is_some (rider_on s g) ≡ true = (rider s l g e q lies on).0 in (
+    let has : is_some (ion_on_segment s g) ≡ true = (rider s l g e q lies on).0 in (
       rw (there, has) refl,
       lies_as (effect m s (Move (segment g))) (record l { riders = with_at g (Some (other_end e, q)) l.riders }) (on_segment cs g (other_end e) q)
           (lies_moved s (effect m s (Move (segment g))) l g e q refl lies on) (λ t. refl) (λ h. again g (Some (other_end e, q)) (Some (e, q)) (λ _. None) h) (λ i. refl),
@@ -127,7 +127,7 @@ pub into_trap : (m : MachineData) (s : State) (cs : ℕ → List Qubit) (t : Tra
 into_trap m s cs t g e end q there trap_there is_end room lies =
     let l : Layout = on_segment cs g e q in
     let on : l.riders g ≡ Some (e, q) = at_own g g (Some (e, q)) (λ _. None) (eqb_same g) in
-    let r : (is_some (rider_on s g) ≡ true) × (rider_stands (Some e) (rider_on s g) ≡ true) = rider s l g e q lies on in
+    let r : (is_some (ion_on_segment s g) ≡ true) × (rider_stands (Some e) (ion_on_segment s g) ≡ true) = rider s l g e q lies on in
     let free : ltb (ions_in s t.0) (get_or m.capacities t.0 0) ≡ true = lt-ltb (ions_in s t.0) (get_or m.capacities t.0 0) (omega (arith, lies.counts t.0)) in (
       rw (there, trap_there, r.0, free, is_end, r.1) refl,
       lies_as (effect m s (Merge (segment g) t end)) (record l { chains = with_at t.0 (joined end q (cs t.0)) cs; riders = with_at g None l.riders }) (settled (with_at t.0 (joined end q (cs t.0)) cs))
@@ -139,8 +139,8 @@ pub into_junction : (m : MachineData) (s : State) (cs : ℕ → List Qubit) (j :
 into_junction m s cs j g e q there junction_there is_end lies =
     let l : Layout = on_segment cs g e q in
     let on : l.riders g ≡ Some (e, q) = at_own g g (Some (e, q)) (λ _. None) (eqb_same g) in
-    let r : (is_some (rider_on s g) ≡ true) × (rider_stands (Some e) (rider_on s g) ≡ true) = rider s l g e q lies on in
-    let free : rider_in s j.0 ≡ None = no_carry s l j.0 lies refl in (
+    let r : (is_some (ion_on_segment s g) ≡ true) × (rider_stands (Some e) (ion_on_segment s g) ≡ true) = rider s l g e q lies on in
+    let free : ion_in_junction s j.0 ≡ None = no_carry s l j.0 lies refl in (
       rw (there, junction_there, r.0, free, is_end, r.1) refl,
       lies_as (effect m s (Enter (segment g) j)) (record l { riders = with_at g None l.riders; carries = with_at j.0 (Some q) l.carries }) (in_junction cs j.0 q)
           (lies_entered s (effect m s (Enter (segment g) j)) l g j.0 e q refl lies on refl) (λ t. refl) (λ h. emptied g None (Some (e, q)) h) (λ i. refl),

@@ -13,13 +13,13 @@ use Rattle.op_table.specs.Touch.{touches, nth, is_first, is_head}
 use Rattle.op_cells.specs.Acted.{CellData, acted_on, data_of, room_of}
 use Rattle.op_cells.specs.Settled.{contents_of}
 use Rattle.op_cells.specs.declared.cells.Held.{Held}
-use Rattle.claim_core.specs.CellOfRun.{IsCell, cell_at, firsts}
-use Rattle.claim_core.specs.Legal.{IsLegalProgram}
-use Rattle.claim_core.specs.MeetsCells.{MeetsCells, own_cells}
-use Rattle.claim_core.specs.Program.{ProgramData}
-use Rattle.claim_core.proofs.MeetsCells.{meets-cells}
-use Rattle.claim_history.specs.Event.{touched}
-use Rattle.claim_history.proofs.Legally.{touched_at}
+use Rattle.qccd_program.specs.CellOfRun.{IsCell, cell_at, firsts}
+use Rattle.qccd_program.specs.Legal.{IsLegalProgram}
+use Rattle.qccd_program.specs.MeetsCells.{MeetsCells, own_cells}
+use Rattle.qccd_program.specs.Program.{ProgramData}
+use Rattle.qccd_program.proofs.MeetsCells.{meets-cells}
+use Rattle.claim_core.specs.Event.{touched}
+use Rattle.claim_core.proofs.Legally.{touched_at}
 use Rattle.qccd_base.proofs.Resources.{same_res-own}
 use Rattle.claim_board.specs.Applied.{Applied, MayApply}
 use Rattle.claim_board.specs.Pass.{AreCells, next_turn}

@@ -15,12 +15,12 @@ use Rattle.op_table.specs.Touch.{nth}
 use Rattle.op_cells.specs.declared.cells.Cell.{Cell}
 use Rattle.op_cells.specs.Numbering.{index_of}
 use Rattle.atomic_table.specs.Table.{Final, Seen}
-use Rattle.claim_core.specs.CellOfRun.{IsCell}
-use Rattle.claim_core.specs.Program.{ProgramData}
-use Rattle.claim_history.specs.Board.{BoardData, is_there, width, turn_at, holder_at, hand_at}
-use Rattle.claim_history.specs.Event.{touched}
-use Rattle.claim_history.specs.Sound.{read}
-use Rattle.claim_history.proofs.Legally.{claims-legal}
+use Rattle.qccd_program.specs.CellOfRun.{IsCell}
+use Rattle.qccd_program.specs.Program.{ProgramData}
+use Rattle.claim_core.specs.Board.{BoardData, is_there, width, turn_at, holder_at, hand_at}
+use Rattle.claim_core.specs.Event.{touched}
+use Rattle.claim_core.specs.Sound.{read}
+use Rattle.claim_core.proofs.Legally.{claims-legal}
 use Rattle.claim_board.specs.declared.view.Key.{Key}
 use Rattle.claim_board.specs.declared.view.View.{View}
 use Rattle.claim_board.specs.Close.{is_past, how_many, one_if, IsAtRest}

@@ -7,15 +7,15 @@ use Rattle.qccd_base.specs.declared.names.Res.{Res}
 use Rattle.qccd_base.specs.Resource.{among}
 use Rattle.op_table.specs.declared.kinds.OpKind.{OpKind}
 use Rattle.op_table.specs.Touch.{nth}
-use Rattle.claim_core.specs.Legal.{IsLegalProgram}
-use Rattle.claim_core.specs.Program.{ProgramData}
-use Rattle.claim_history.specs.Board.{BoardData, HandData, hand_at, holder_at, idle, turn_at}
-use Rattle.claim_history.specs.Enabled.{IsFinished}
-use Rattle.claim_history.specs.Event.{touched}
-use Rattle.claim_history.specs.History.{IsBoardOf}
-use Rattle.claim_history.proofs.Ends.{board-sound}
-use Rattle.claim_history.proofs.Kept.{cases_ℕ}
-use Rattle.claim_history.proofs.Turns.{nth_same}
+use Rattle.qccd_program.specs.Legal.{IsLegalProgram}
+use Rattle.qccd_program.specs.Program.{ProgramData}
+use Rattle.claim_core.specs.Board.{BoardData, HandData, hand_at, holder_at, idle, turn_at}
+use Rattle.claim_core.specs.Enabled.{IsFinished}
+use Rattle.claim_core.specs.Event.{touched}
+use Rattle.claim_core.specs.History.{IsBoardOf}
+use Rattle.claim_core.proofs.Ends.{board-sound}
+use Rattle.claim_core.proofs.Kept.{cases_ℕ}
+use Rattle.claim_core.proofs.Turns.{nth_same}
 use Rattle.claim_board.proofs.Words.{cases_Option}
 
 is_this : (o : Option ℕ) (k : ℕ) → (o ≡ Some k) ⊎ (o ≢ Some k)

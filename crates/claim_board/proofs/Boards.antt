@@ -10,20 +10,20 @@ use Rattle.qccd_base.proofs.FirstFailing.{passes_first, first_failing-after}
 use Rattle.qccd_base.proofs.Resources.{among-own}
 use Rattle.op_table.specs.declared.kinds.OpKind.{OpKind}
 use Rattle.op_table.specs.Touch.{nth, is_head}
-use Rattle.claim_core.specs.Legal.{IsLegalProgram}
-use Rattle.claim_core.specs.Program.{ProgramData}
-use Rattle.claim_history.specs.declared.event.ActFault.{ActFault}
-use Rattle.claim_history.specs.declared.event.ActFault.TheVariants.{NotYours, Untouched, Again, NotGot}
-use Rattle.claim_history.specs.declared.event.Event.{Event}
-use Rattle.claim_history.specs.declared.event.Event.TheVariants.{Begin, Reach, Give}
-use Rattle.claim_history.specs.Board.{BoardData, turn_at, holder_at, hand_at, got_at, gave_at, empty_hand, opening_board}
-use Rattle.claim_history.specs.Event.{touched, is_op, is_free, not_free, fault, begun, moved}
-use Rattle.claim_history.specs.History.{board_of, board_from, IsHistory}
-use Rattle.claim_history.specs.Sound.{Reading, Sound, IsSound, HandFits, Unbegun}
-use Rattle.claim_history.proofs.Events.{history-sound, opening-sound}
-use Rattle.claim_history.proofs.Kept.{first_among}
-use Rattle.claim_history.proofs.Legally.{claims-legal}
-use Rattle.claim_history.proofs.Turns.{nth_same}
+use Rattle.qccd_program.specs.Legal.{IsLegalProgram}
+use Rattle.qccd_program.specs.Program.{ProgramData}
+use Rattle.claim_core.specs.declared.event.ActFault.{ActFault}
+use Rattle.claim_core.specs.declared.event.ActFault.TheVariants.{NotYours, Untouched, Again, NotGot}
+use Rattle.claim_core.specs.declared.event.Event.{Event}
+use Rattle.claim_core.specs.declared.event.Event.TheVariants.{Begin, Reach, Give}
+use Rattle.claim_core.specs.Board.{BoardData, turn_at, holder_at, hand_at, got_at, gave_at, empty_hand, opening_board}
+use Rattle.claim_core.specs.Event.{touched, is_op, is_free, not_free, fault, begun, moved}
+use Rattle.claim_core.specs.History.{board_of, board_from, IsHistory}
+use Rattle.claim_core.specs.Sound.{Reading, Sound, IsSound, HandFits, Unbegun}
+use Rattle.claim_core.proofs.Events.{history-sound, opening-sound}
+use Rattle.claim_core.proofs.Kept.{first_among}
+use Rattle.claim_core.proofs.Legally.{claims-legal}
+use Rattle.claim_core.proofs.Turns.{nth_same}
 use Rattle.claim_board.proofs.Words.{cases_Option}
 
 -- the board of a history is sound

@@ -14,11 +14,11 @@ use Rattle.atomic_table.specs.Table.{rest}
 use Rattle.op_cells.specs.declared.cells.Cell.{Cell}
 use Rattle.op_cells.specs.declared.cells.Held.{Held}
 use Rattle.op_cells.specs.Numbering.{index_of}
-use Rattle.claim_core.specs.CellOfRun.{IsCell}
-use Rattle.claim_core.specs.Program.{ProgramData}
-use Rattle.claim_history.specs.Board.{HandData, is_there, width, flag_at, no_flags}
-use Rattle.claim_history.specs.Event.{touched, with_flag}
-use Rattle.claim_history.proofs.Written.{index_below, flag_set, flag_none}
+use Rattle.qccd_program.specs.CellOfRun.{IsCell}
+use Rattle.qccd_program.specs.Program.{ProgramData}
+use Rattle.claim_core.specs.Board.{HandData, is_there, width, flag_at, no_flags}
+use Rattle.claim_core.specs.Event.{touched, with_flag}
+use Rattle.claim_core.proofs.Written.{index_below, flag_set, flag_none}
 use Rattle.claim_board.specs.declared.claimed.Claimed.{Claimed}
 use Rattle.claim_board.specs.declared.claimed.Claimed.TheVariants.{Got, NotNow, Gone}
 use Rattle.claim_board.specs.declared.view.View.{View}
@@ -112,7 +112,7 @@ word-in p size i v turns r s there at = (omega (arith, s.words, index_below p r 
 
 -- a word that is not free at the turn needed
 not-free : (n m : ℕ) → n ≢ 32 * m → m ≤ n / 32 → (m < n / 32) ⊎ ((n / 32 ≡ m) × (0 < n % 32))
-not-free n m other le = elim (Rattle.claim_history.proofs.Kept.cases_ℕ (n / 32) m) [
+not-free n m other le = elim (Rattle.claim_core.proofs.Kept.cases_ℕ (n / 32) m) [
   | inl is ↦ inr (is, omega arith)
   | inr apart ↦ inl (omega arith)
 ]

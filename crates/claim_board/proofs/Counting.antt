@@ -9,19 +9,19 @@ use Rattle.qccd_base.specs.Resource.{among, same_res}
 use Rattle.qccd_base.proofs.Resources.{same_res-true, among-own}
 use Rattle.op_table.specs.declared.kinds.OpKind.{OpKind}
 use Rattle.op_table.specs.Touch.{nth, is_head}
-use Rattle.claim_core.specs.Program.{ProgramData}
-use Rattle.claim_history.specs.declared.board.Slot.{Slot}
-use Rattle.claim_history.specs.declared.event.Event.{Event}
-use Rattle.claim_history.specs.declared.event.Event.TheVariants.{Begin, Reach, Give}
-use Rattle.claim_history.specs.Board.{BoardData, opening_board, hand_at}
-use Rattle.claim_history.specs.Event.{touched, begun, fault, moved, IsEvent}
-use Rattle.claim_history.specs.History.{IsHistoryFrom, board_from}
-use Rattle.claim_history.specs.Sound.{Reading, read, Sound, IsSound}
-use Rattle.claim_history.specs.Coded.{Claims}
-use Rattle.claim_history.proofs.Events.{event-sound, opening-sound, slot_opening}
-use Rattle.claim_history.proofs.Kept.{Moved, Begins, Reaches, Gives, first_among, cases_ℕ}
-use Rattle.claim_history.proofs.Turns.{nth_same}
-use Rattle.claim_history.proofs.Written.{begins, reaches, gives, moved-both}
+use Rattle.qccd_program.specs.Program.{ProgramData}
+use Rattle.claim_core.specs.declared.board.Slot.{Slot}
+use Rattle.claim_core.specs.declared.event.Event.{Event}
+use Rattle.claim_core.specs.declared.event.Event.TheVariants.{Begin, Reach, Give}
+use Rattle.claim_core.specs.Board.{BoardData, opening_board, hand_at}
+use Rattle.claim_core.specs.Event.{touched, begun, fault, moved, IsEvent}
+use Rattle.claim_core.specs.History.{IsHistoryFrom, board_from}
+use Rattle.claim_core.specs.Sound.{Reading, read, Sound, IsSound}
+use Rattle.claim_core.specs.Coded.{Claims}
+use Rattle.claim_core.proofs.Events.{event-sound, opening-sound, slot_opening}
+use Rattle.claim_core.proofs.Kept.{Moved, Begins, Reaches, Gives, first_among, cases_ℕ}
+use Rattle.claim_core.proofs.Turns.{nth_same}
+use Rattle.claim_core.proofs.Written.{begins, reaches, gives, moved-both}
 use Rattle.claim_board.specs.Close.{how_many, is_past, one_if}
 use Rattle.claim_board.specs.Rule.{begin_of, begins_in}
 use Rattle.claim_board.proofs.Words.{cases_Option}
@@ -164,7 +164,7 @@ pub past-begun : (p : ProgramData) (workers : ℕ) (es : List Event) → Claims 
 past-begun p workers es claims history idle =
     let b : BoardData = board_from p (opening_board p workers) es in
     let c : Reading = read p b in
-    let sound : Sound p.ops c = (Rattle.claim_history.proofs.Events.history-sound p (opening_board p workers) es claims (opening-sound p workers) history).sound in
+    let sound : Sound p.ops c = (Rattle.claim_core.proofs.Events.history-sound p (opening_board p workers) es claims (opening-sound p workers) history).sound in
     let free : (r : Res) → taken c r ≡ c.turn r = λ r. elim (cases_Option (c.holder r)) [
       | inl h ↦ free_taken c r h
       | inr (w, h) ↦ let held = sound.held r w h in absurd (none-some held.op (sym (idle w) ∙ held.hand))

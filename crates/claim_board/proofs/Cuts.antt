@@ -10,8 +10,8 @@ use Rattle.std.proofs.lemmas.List.Sums.{sum_by_push}
 use Rattle.op_cells.specs.Numbering.{index_of}
 use Rattle.atomic_table.specs.Table.{Splits}
 use Rattle.atomic_table.proofs.Lists.{at_set, at_map, set_here, set_else}
-use Rattle.claim_history.specs.Board.{BoardData, width, hand_at}
-use Rattle.claim_history.proofs.Kept.{cases_ℕ}
+use Rattle.claim_core.specs.Board.{BoardData, width, hand_at}
+use Rattle.claim_core.proofs.Kept.{cases_ℕ}
 use Rattle.claim_board.specs.declared.view.Key.{Key}
 use Rattle.claim_board.specs.declared.view.View.{View}
 use Rattle.claim_board.specs.Plays.{stays, comes}

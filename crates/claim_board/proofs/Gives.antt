@@ -11,22 +11,23 @@ use Rattle.op_cells.specs.declared.cells.Cell.{Cell}
 use Rattle.op_cells.specs.Numbering.{index_of}
 use Rattle.atomic_table.specs.Table.{step, Allows, Act, Valid, stepped, carried_after, gives}
 use Rattle.atomic_table.proofs.Lists.{set_else, set_here}
-use Rattle.claim_core.specs.CellOfRun.{IsCell}
-use Rattle.claim_core.specs.Program.{ProgramData}
-use Rattle.claim_history.specs.declared.board.Slot.{Slot}
-use Rattle.claim_history.specs.declared.event.Event.TheVariants.{Give}
-use Rattle.claim_history.specs.Board.{BoardData, HandData, is_there, turn_at, hand_at, flag_at}
-use Rattle.claim_history.specs.Event.{Allowed, moved, touched, with_both, with_flag, left_in_hand}
-use Rattle.claim_history.proofs.Written.{index_apart, index_below}
+use Rattle.qccd_program.specs.CellOfRun.{IsCell}
+use Rattle.qccd_program.specs.Program.{ProgramData}
+use Rattle.claim_core.specs.declared.board.Slot.{Slot}
+use Rattle.claim_core.specs.declared.event.Event.TheVariants.{Give}
+use Rattle.claim_core.specs.Board.{BoardData, HandData, is_there, turn_at, hand_at, flag_at}
+use Rattle.claim_core.specs.Event.{Allowed, moved, touched, with_both, with_flag, left_in_hand}
+use Rattle.claim_core.proofs.Written.{index_apart, index_below}
 use Rattle.claim_board.specs.declared.view.Key.{Key}
 use Rattle.claim_board.specs.declared.view.View.{View}
 use Rattle.claim_board.specs.Plays.{MayGive, after_give, gave}
 use Rattle.claim_board.specs.View.{hand_of}
 use Rattle.claim_board.specs.Rule.{Ruled}
+use Rattle.claim_board.specs.Stepping.{Happens}
 use Rattle.claim_board.proofs.Begins.{on, on-same, touched-there, one-word}
 use Rattle.claim_board.proofs.Boards.{give-granted, hands-of}
 use Rattle.claim_board.proofs.Looks.{same-program, seen-here, seen-else, seen-long}
-use Rattle.claim_board.proofs.Moves.{St, board, sound-rule, number-below, moves, Turns}
+use Rattle.claim_board.proofs.Moves.{St, board, happens, sound-rule, number-below, moves, Turns}
 
 module _ (key : Key) (s : St) (rule : Ruled key s) (id : ℕ) (u : View) (at : get_elem? s.views id ≡ some (on key.program.value u)) (k : ℕ) (q : Res) (may : MayGive (on key.program.value u) k q) (c : Cell) (cell : IsCell key.program.value q (nth key.program.value.ops k q + 1) c) where
   abbrev P : ProgramData
@@ -101,6 +102,9 @@ module _ (key : Key) (s : St) (rule : Ruled key s) (id : ℕ) (u : View) (at : g
   pub give-keeps : Ruled key (record { words = set s.words (index_of P.machine q) (32 * (nth P.ops k q + 1)); homes = set s.homes (index_of P.machine q) (some (Some c)); views = set s.views id (after_give k q V) })
   give-keeps = moves key s rule id V (after_give k q V) (Give u.number k q) q _ _ _ at may.live given_turns
 
+  give_happens : Happens key (Give u.number k q) s (record { words = set s.words (index_of P.machine q) (32 * (nth P.ops k q + 1)); homes = set s.homes (index_of P.machine q) (some (Some c)); views = set s.views id (after_give k q V) })
+  give_happens = happens key s rule id V (after_give k q V) (Give u.number k q) q _ _ _ at may.live given_turns
+
   pub give-tells : (slots : ℕ) (held : List (ℕ × Option Cell)) → gave (step slots (index_of P.machine q) (32 * (nth P.ops k q + 1)) 0 none) (V, (index_of P.machine q, Some c) ∷ held) (32 * (nth P.ops k q + 1)) (after_give k q V, held)
   give-tells slots held j r is that =
       let j_is : k ≡ j = same_Some k j (sym may.busy ∙ is) in
@@ -117,3 +121,12 @@ give-allows key slots id v held k q c may cell s rule deep at less =
     → (w : View) × (a : Act (Option Cell)) × Valid s.homes ((index_of u.program.machine q, Some c) ∷ held) a × Ruled key (stepped s (index_of u.program.machine q) (32 * (nth u.program.ops k q + 1)) id ((index_of u.program.machine q, Some c) ∷ held) w a)
     × gave (step slots (index_of u.program.machine q) (32 * (nth u.program.ops k q + 1)) 0 none) (u, (index_of u.program.machine q, Some c) ∷ held) (32 * (nth u.program.ops k q + 1)) (w, carried_after ((index_of u.program.machine q, Some c) ∷ held) a)) same
     (λ here asks is. (after_give k q (on p v), gives, tt, give-keeps key s rule id v here k q asks c is, give-tells key s rule id v here k q asks c is slots held)) at may cell
+
+-- it is an event on the board that is shown
+pub give-happens : (key : Key) (s : St) (id : ℕ) (v : View) (held : List (ℕ × Option Cell)) (k : ℕ) (q : Res) (c : Cell) → Ruled key s → get_elem? s.views id ≡ some v → MayGive v k q → IsCell v.program q (nth v.program.ops k q + 1) c
+    → Happens key (Give v.number k q) s (stepped s (index_of v.program.machine q) (32 * (nth v.program.ops k q + 1)) id ((index_of v.program.machine q, Some c) ∷ held) (after_give k q v) gives)
+give-happens key s id v held k q c rule at may is =
+    subst (λ (u : View). get_elem? s.views id ≡ some u → MayGive u k q → IsCell u.program q (nth u.program.ops k q + 1) c
+    → Happens key (Give u.number k q) s (stepped s (index_of u.program.machine q) (32 * (nth u.program.ops k q + 1)) id ((index_of u.program.machine q, Some c) ∷ held) (after_give k q u) gives))
+    (on-same key.program.value v (same-program key s rule id v at may.live))
+    (λ here asks cell. give_happens key s rule id v here k q asks c cell) at may is

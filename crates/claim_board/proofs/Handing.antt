@@ -13,11 +13,11 @@ use Rattle.op_cells.specs.declared.cells.Cell.{Cell}
 use Rattle.op_cells.specs.declared.cells.Held.{Held}
 use Rattle.op_cells.specs.Numbering.{index_of}
 use Rattle.atomic_table.specs.Table.{rest}
-use Rattle.claim_core.specs.CellOfRun.{IsCell}
-use Rattle.claim_core.specs.Program.{ProgramData}
-use Rattle.claim_history.specs.Board.{is_there, width, flag_at}
-use Rattle.claim_history.specs.Event.{touched, with_flag, left_in_hand}
-use Rattle.claim_history.proofs.Written.{all_or_one, flag_set}
+use Rattle.qccd_program.specs.CellOfRun.{IsCell}
+use Rattle.qccd_program.specs.Program.{ProgramData}
+use Rattle.claim_core.specs.Board.{is_there, width, flag_at}
+use Rattle.claim_core.specs.Event.{touched, with_flag, left_in_hand}
+use Rattle.claim_core.proofs.Written.{all_or_one, flag_set}
 use Rattle.claim_board.specs.declared.view.View.{View}
 use Rattle.claim_board.specs.Pass.{AreCells, HasFlags, IsWhole, empty_slots, Kept, HasGiven, next_turn}
 use Rattle.claim_board.specs.Plays.{Knows, MayGive, after_give}
@@ -116,7 +116,7 @@ given-one p v me after w held later k n r v_p there at long h w_is given cells =
       few = omega arith;
       seen = λ q _. seen-rises me.0.seen (index_of me.0.program.machine r) (nth me.0.program.ops k r + 1) (index_of me.0.program.machine q);
     }) in
-    let less : index_of P.machine r < length me.0.seen = omega (arith, h.kept.long, long, Rattle.claim_history.proofs.Written.index_below p r there, ap (λ (q : ProgramData). index_of q.machine r) v_p) in
+    let less : index_of P.machine r < length me.0.seen = omega (arith, h.kept.long, long, Rattle.claim_core.proofs.Written.index_below p r there, ap (λ (q : ProgramData). index_of q.machine r) v_p) in
     let seen_here : next_turn P k r ≤ seen_of after.0 r =
     subst (λ (z : View). next_turn P k r ≤ seen_of z r) (sym view)
     (subst (λ (q : ProgramData). next_turn P k r ≤ get_or (seen_also me.0.seen (index_of q.machine r) (nth q.ops k r + 1)) (index_of q.machine r) 0) (sym me_p) (seen-new me.0.seen (index_of P.machine r) (nth P.ops k r + 1) less)) in

@@ -9,9 +9,9 @@ use Rattle.qccd_base.specs.declared.names.Res.{Res}
 use Rattle.op_cells.specs.Numbering.{index_of}
 use Rattle.atomic_table.specs.Table.{Joins}
 use Rattle.atomic_table.proofs.Lists.{at_set, set_here, set_else}
-use Rattle.claim_core.specs.Program.{ProgramData}
-use Rattle.claim_history.specs.Board.{BoardData, is_there, turn_at, hand_at}
-use Rattle.claim_history.proofs.Kept.{cases_ℕ}
+use Rattle.qccd_program.specs.Program.{ProgramData}
+use Rattle.claim_core.specs.Board.{BoardData, is_there, turn_at, hand_at}
+use Rattle.claim_core.proofs.Kept.{cases_ℕ}
 use Rattle.claim_board.specs.declared.view.Key.{Key}
 use Rattle.claim_board.specs.declared.view.View.{View}
 use Rattle.claim_board.specs.Plays.{joined, spent}

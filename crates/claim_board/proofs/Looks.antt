@@ -11,16 +11,17 @@ use Rattle.op_cells.specs.declared.cells.Cell.{Cell}
 use Rattle.op_cells.specs.Numbering.{index_of}
 use Rattle.atomic_table.specs.Table.{State, step, Allows, keeps}
 use Rattle.atomic_table.proofs.Lists.{at_set}
-use Rattle.claim_core.specs.Program.{ProgramData}
-use Rattle.claim_history.specs.Board.{BoardData, is_there, width, slot_at, turn_at}
-use Rattle.claim_history.proofs.Written.{index_apart, index_below}
-use Rattle.claim_history.proofs.Turns.{nth_all}
+use Rattle.qccd_program.specs.Program.{ProgramData}
+use Rattle.claim_core.specs.Board.{BoardData, is_there, width, slot_at, turn_at}
+use Rattle.claim_core.proofs.Written.{index_apart, index_below}
+use Rattle.claim_core.proofs.Turns.{nth_all}
 use Rattle.claim_board.specs.declared.view.Key.{Key}
 use Rattle.claim_board.specs.declared.view.View.{View}
 use Rattle.claim_board.specs.Plays.{Knows, after_look, looked}
 use Rattle.claim_board.specs.View.{turn_in, hand_of, seen_of, seen_also}
-use Rattle.claim_board.specs.Rule.{ShowsHand, Identity, identity, IsLive, Numbers, begun_of, Ruled}
-use Rattle.claim_board.proofs.Moves.{St, board, sound-rule, small-mark, same-map, sum-set}
+use Rattle.claim_board.specs.Stepping.{LeavesBoard}
+use Rattle.claim_board.specs.Rule.{ShowsHand, Identity, identity, IsLive, Numbers, begun_of, Ruled, Shown}
+use Rattle.claim_board.proofs.Moves.{St, board, board-is, sound-rule, small-mark, same-map, sum-set}
 use Rattle.claim_board.proofs.Words.{turn-word}
 
 -- a pass that differs in what it has seen alone, and in what it looked at
@@ -44,8 +45,8 @@ watches key s rule id v w at live t =
     let mine : ShowsHand key b w = record {
       program = t.program ∙ old.program;
       workers = t.workers ∙ old.workers;
-      op = ap (λ (n : ℕ). (Rattle.claim_history.specs.Board.hand_at b n).op) number ∙ old.op ∙ sym t.op;
-      hand = λ k busy. ap (Rattle.claim_history.specs.Board.hand_at b) number ∙ old.hand k (sym t.op ∙ busy) ∙ sym t.hand;
+      op = ap (λ (n : ℕ). (Rattle.claim_core.specs.Board.hand_at b n).op) number ∙ old.op ∙ sym t.op;
+      hand = λ k busy. ap (Rattle.claim_core.specs.Board.hand_at b) number ∙ old.hand k (sym t.op ∙ busy) ∙ sym t.hand;
       long = t.long ∙ old.long;
       seen = t.seen;
     } in
@@ -61,7 +62,7 @@ watches key s rule id v w at live t =
         homes = rule.shown.homes;
         passes = λ j u there alive. ⊎_elim (λ (t : (j ≡ id) × (w ≡ u)). subst (ShowsHand key b) t.1 mine)
             (λ (t : (j ≢ id) × (get_elem? s.views j ≡ some u)). rule.shown.passes j u t.1 alive) (at_set s.views id j w u there);
-        owned = subst (λ (is : List Identity). (n k : ℕ) → (Rattle.claim_history.specs.Board.hand_at b n).op ≡ Some k → (j : ℕ) × (a : Identity) × IsLive is j a × (a.number ≡ n)) (sym identities) rule.shown.owned;
+        owned = subst (λ (is : List Identity). (n k : ℕ) → (Rattle.claim_core.specs.Board.hand_at b n).op ≡ Some k → (j : ℕ) × (a : Identity) × IsLive is j a × (a.number ≡ n)) (sym identities) rule.shown.owned;
       };
       numbers = subst (λ (is : List Identity). Numbers key.workers is) (sym identities) rule.numbers;
       counted = omega (arith, rule.counted, sum-set begun_of s.views id v w at, begun);
@@ -79,7 +80,7 @@ seen-long seen i n = length-set seen i (max (get_or seen i 0) n)
 
 -- a turn is small
 pub small-turn : (key : Key) (s : St) (rule : Ruled key s) (r : Res) → turn_at key.program.value (board key s rule) r ≤ 4194304
-small-turn key s rule r = omega (arith, (sound-rule key s rule).sound.few r, Rattle.claim_history.proofs.Coded.nth-le key.program.value.ops (length key.program.value.ops) r, nth_all key.program.value.ops r, rule.legal.few)
+small-turn key s rule r = omega (arith, (sound-rule key s rule).sound.few r, Rattle.claim_core.proofs.Coded.nth-le key.program.value.ops (length key.program.value.ops) r, nth_all key.program.value.ops r, rule.legal.few)
 
 -- what a word tells of its resource
 pub turn-found : (key : Key) (s : St) (rule : Ruled key s) (r : Res) → is_there key.program.value r ≡ true → turn_in (get_or s.words (index_of key.program.value.machine r) 0) ≡ turn_at key.program.value (board key s rule) r
@@ -116,20 +117,34 @@ module _ (key : Key) (s : St) (rule : Ruled key s) (id : ℕ) (v : View) (at : g
         ],
       )
 
+  look_watches : Watches key B v (after_look (index_of P.machine q) X v)
+  look_watches = record {
+    same = refl;
+    program = refl;
+    workers = refl;
+    op = refl;
+    hand = refl;
+    begun = refl;
+    long = seen-long v.seen (index_of P.machine q) (turn_in X);
+    seen = looks_seen;
+  }
+
   pub look-keeps : Ruled key (record { words = set s.words (index_of P.machine q) X; homes = s.homes; views = set s.views id (after_look (index_of P.machine q) X v) })
   look-keeps =
       let same : set s.words (index_of P.machine q) X ≡ s.words = set-get_or s.words (index_of P.machine q) 0 in
       subst (λ (ws : List ℕ). Ruled key (record { words = ws; homes = s.homes; views = set s.views id (after_look (index_of P.machine q) X v) })) (sym same)
-      (watches key s rule id v (after_look (index_of P.machine q) X v) at live (record {
-        same = refl;
-        program = refl;
-        workers = refl;
-        op = refl;
-        hand = refl;
-        begun = refl;
-        long = seen-long v.seen (index_of P.machine q) (turn_in X);
-        seen = looks_seen;
-      }))
+      (watches key s rule id v (after_look (index_of P.machine q) X v) at live look_watches)
+
+  look_stays : LeavesBoard key s (record { words = set s.words (index_of P.machine q) X; homes = s.homes; views = set s.views id (after_look (index_of P.machine q) X v) })
+  unfolding watches
+  look_stays = record {
+    board = B;
+    is = board-is key s rule;
+    shown = rule.shown;
+    stays =
+        subst (λ (ws : List ℕ). Shown key B (record { words = ws; homes = s.homes; views = set s.views id (after_look (index_of P.machine q) X v) })) (sym (set-get_or s.words (index_of P.machine q) 0))
+        (watches key s rule id v (after_look (index_of P.machine q) X v) at live look_watches).shown;
+  }
 
   pub look-small : turn_in X ≤ 4194304
   look-small = omega (arith, turn-found key s rule q there, small-turn key s rule q)
@@ -147,3 +162,11 @@ look-allows key slots id word me q live there is s rule deep at less =
     subst (λ (i : ℕ). (w : View) × (a : Rattle.atomic_table.specs.Table.Act (Option Cell)) × Rattle.atomic_table.specs.Table.Valid s.homes me.1 a × Ruled key (Rattle.atomic_table.specs.Table.stepped s i (get_or s.words i 0) id me.1 w a)
     × looked (step slots i 0 0 none) me (get_or s.words i 0) (w, Rattle.atomic_table.specs.Table.carried_after me.1 a)) here
     (after_look (index_of key.program.value.machine q) (get_or s.words (index_of key.program.value.machine q) 0) me.0, keeps, tt, look-keeps key s rule id me.0 at live q within, (refl, look-small key s rule id me.0 at live q within))
+
+-- it leaves the board that is shown
+pub look-stays : (key : Key) (s : St) (id : ℕ) (v : View) (c : List (ℕ × Option Cell)) (q : Res) → Ruled key s → get_elem? s.views id ≡ some v → v.live ≡ true → is_there v.program q ≡ true
+    → LeavesBoard key s (Rattle.atomic_table.specs.Table.stepped s (index_of v.program.machine q) (get_or s.words (index_of v.program.machine q) 0) id c (after_look (index_of v.program.machine q) (get_or s.words (index_of v.program.machine q) 0) v) keeps)
+look-stays key s id v c q rule at live there =
+    subst (λ (p : ProgramData). is_there p q ≡ true
+    → LeavesBoard key s (Rattle.atomic_table.specs.Table.stepped s (index_of p.machine q) (get_or s.words (index_of p.machine q) 0) id c (after_look (index_of p.machine q) (get_or s.words (index_of p.machine q) 0) v) keeps))
+    (sym (same-program key s rule id v at live)) (λ within. look_stays key s rule id v at live q within) there

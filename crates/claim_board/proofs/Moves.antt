@@ -1,5 +1,5 @@
 -- An event that a pass makes keeps the rule.
-use Rattle.std.proofs.Common.{◌≡◌, ◌≢◌, ℕ, zero, suc, ◌+◌, ◌<◌, ◌≤◌, ⊎_elim, inl, inr, Bool, true, false, cond, List, [], ◌∷◌, ◌++◌, length, map, set, get_or, sym, ◌∙◌, ap, subst, arith, Option, Some, None, length-set, get_or-set_same, get_or-set_other, sum_by}
+use Rattle.std.proofs.Common.{◌≡◌, ◌≢◌, ℕ, zero, suc, ◌+◌, ◌<◌, ◌≤◌, ⊎_elim, inl, inr, Bool, true, false, cond, List, [], ◌∷◌, ◌++◌, length, map, set, get_or, refl, sym, ◌∙◌, ap, subst, arith, Option, Some, None, length-set, get_or-set_same, get_or-set_other, sum_by}
 use mathlib.Core.Option.{some, some-injective, some-ne-none}
 use mathlib.Core.Option as maybe
 use lib.ListN.{get_elem?}
@@ -13,20 +13,21 @@ use Rattle.op_cells.specs.declared.cells.Cell.{Cell}
 use Rattle.op_cells.specs.Numbering.{index_of}
 use Rattle.atomic_table.specs.Table.{State}
 use Rattle.atomic_table.proofs.Lists.{at_set, set_again, at_map}
-use Rattle.claim_core.specs.CellOfRun.{IsCell}
-use Rattle.claim_core.specs.Program.{ProgramData}
-use Rattle.claim_history.specs.declared.board.Slot.{Slot}
-use Rattle.claim_history.specs.declared.event.Event.{Event}
-use Rattle.claim_history.specs.Board.{BoardData, HandData, is_there, free_slot, slot_at, turn_at, holder_at, hand_at, opening_board}
-use Rattle.claim_history.specs.Event.{Allowed, moved, with_both}
-use Rattle.claim_history.specs.History.{board_of}
-use Rattle.claim_history.specs.Sound.{IsSound}
-use Rattle.claim_history.proofs.Events.{history-more}
-use Rattle.claim_history.proofs.Kept.{cases_ℕ}
-use Rattle.claim_history.proofs.Written.{at_other, slot_own, hand_own, hand_other, index_apart}
+use Rattle.qccd_program.specs.CellOfRun.{IsCell}
+use Rattle.qccd_program.specs.Program.{ProgramData}
+use Rattle.claim_core.specs.declared.board.Slot.{Slot}
+use Rattle.claim_core.specs.declared.event.Event.{Event}
+use Rattle.claim_core.specs.Board.{BoardData, HandData, is_there, free_slot, slot_at, turn_at, holder_at, hand_at, opening_board}
+use Rattle.claim_core.specs.Event.{Allowed, moved, with_both}
+use Rattle.claim_core.specs.History.{IsBoardOf, board_of}
+use Rattle.claim_core.specs.Sound.{IsSound}
+use Rattle.claim_core.proofs.Events.{history-more}
+use Rattle.claim_core.proofs.Kept.{cases_ℕ}
+use Rattle.claim_core.proofs.Written.{at_other, slot_own, hand_own, hand_other, index_apart}
 use Rattle.claim_board.specs.declared.view.Key.{Key}
 use Rattle.claim_board.specs.declared.view.View.{View}
 use Rattle.claim_board.specs.View.{word_of, mark_of, hand_of, seen_of}
+use Rattle.claim_board.specs.Stepping.{Happens}
 use Rattle.claim_board.specs.Rule.{ShowsHand, Identity, identity, IsLive, Numbers, begun_of, all_begun, begin_of, begins_in, IsHome, Shown, Ruled}
 use Rattle.claim_board.proofs.Boards.{sound-of, hands-of, board-more}
 use Rattle.claim_board.proofs.Words.{cases_Option}
@@ -45,6 +46,9 @@ board key s rule = board_of key.program.value key.workers rule.events
 
 pub sound-rule : (key : Key) (s : St) (rule : Ruled key s) → IsSound key.program.value (board key s rule)
 sound-rule key s rule = sound-of key.program.value key.workers rule.events rule.legal rule.history
+
+pub board-is : (key : Key) (s : St) (rule : Ruled key s) → IsBoardOf key.program.value (board key s rule)
+board-is key s rule = record { workers = key.workers; events = rule.events; history = rule.history; board = refl }
 
 -- a live view's number is there
 pub live-identity : (vs : List View) (j : ℕ) (v : View) → get_elem? vs j ≡ some v → v.live ≡ true → IsLive (map identity vs) j (identity v)
@@ -141,7 +145,7 @@ module _ (key : Key) (s : St) (rule : Ruled key s) (id : ℕ) (v w : View) (e : 
   words_after r there = elim (cases_Bool (same_res q r)) [
     | inl is ↦
         subst (λ (y : Res). get_or (set s.words (index_of P.machine q) n) (index_of P.machine y) 0 ≡ word_of (slot_at P C y)) (same_res-true q r is)
-        (get_or-set_same s.words (index_of P.machine q) n 0 (omega (arith, rule.wide, Rattle.claim_history.proofs.Written.index_below P q t.there)) ∙ t.word ∙ ap word_of (sym slot_here))
+        (get_or-set_same s.words (index_of P.machine q) n 0 (omega (arith, rule.wide, Rattle.claim_core.proofs.Written.index_below P q t.there)) ∙ t.word ∙ ap word_of (sym slot_here))
     | inr apart ↦
         get_or-set_other s.words (index_of P.machine q) (index_of P.machine r) n 0 (index_else r there apart) ∙ rule.shown.words r there ∙ ap word_of (sym (slot_else r apart))
   ]
@@ -224,3 +228,12 @@ module _ (key : Key) (s : St) (rule : Ruled key s) (id : ℕ) (v w : View) (e : 
         numbers = subst (λ (is : List Identity). Numbers key.workers is) (sym idents_stay) rule.numbers;
         counted = begun_after;
       }
+
+  pub happens : Happens key e s S
+  happens = record {
+    board = B;
+    is = board-is key s rule;
+    shown = rule.shown;
+    allowed = t.allowed;
+    leads = subst (λ (b : BoardData). Shown key b S) (sym t.leaves) shown_after;
+  }

@@ -13,13 +13,13 @@ use Rattle.op_cells.specs.declared.cells.Cell.{Cell}
 use Rattle.op_cells.specs.Numbering.{index_of, IsThere}
 use Rattle.atomic_table.specs.Table.{opening}
 use Rattle.atomic_table.proofs.Lists.{at_map}
-use Rattle.claim_core.specs.AllCells.{AtStep}
-use Rattle.claim_core.specs.CellOfRun.{IsCell}
-use Rattle.claim_core.specs.Legal.{IsLegalProgram}
-use Rattle.claim_core.specs.Program.{ProgramData}
-use Rattle.claim_history.specs.declared.board.Slot.{Slot}
-use Rattle.claim_history.specs.Board.{BoardData, is_there, width, opening_board}
-use Rattle.claim_history.proofs.Events.{slot_opening, hand_opening}
+use Rattle.qccd_program.specs.AllCells.{AtStep}
+use Rattle.qccd_program.specs.CellOfRun.{IsCell}
+use Rattle.qccd_program.specs.Legal.{IsLegalProgram}
+use Rattle.qccd_program.specs.Program.{ProgramData}
+use Rattle.claim_core.specs.declared.board.Slot.{Slot}
+use Rattle.claim_core.specs.Board.{BoardData, is_there, width, opening_board}
+use Rattle.claim_core.proofs.Events.{slot_opening, hand_opening}
 use Rattle.claim_board.proofs.Handing.{map-long}
 use Rattle.claim_board.specs.declared.view.Key.{Key}
 use Rattle.claim_board.specs.View.{word_of}

@@ -9,10 +9,10 @@ use Rattle.qccd_base.specs.declared.names.Res.TheVariants as res
 use Rattle.op_cells.specs.declared.cells.Cell.{Cell}
 use Rattle.op_cells.specs.Numbering.{index_of, IsThere}
 use Rattle.atomic_table.specs.Table.{Final, Seen}
-use Rattle.claim_core.specs.AllCells.{AtTurns}
-use Rattle.claim_core.specs.CellOfRun.{IsCell}
-use Rattle.claim_core.specs.Program.{ProgramData}
-use Rattle.claim_history.specs.Board.{is_there}
+use Rattle.qccd_program.specs.AllCells.{AtTurns}
+use Rattle.qccd_program.specs.CellOfRun.{IsCell}
+use Rattle.qccd_program.specs.Program.{ProgramData}
+use Rattle.claim_core.specs.Board.{is_there}
 use Rattle.claim_board.specs.declared.deck.Deck.{Deck}
 use Rattle.claim_board.specs.declared.pass.Pass.{Pass}
 use Rattle.claim_board.specs.declared.view.View.{View}

@@ -1,7 +1,7 @@
 -- What a word says.
 use Rattle.std.proofs.Common.{◌≡◌, ℕ, ◌+◌, ◌*◌, ◌/◌, ◌%◌, ◌<◌, ◌⊎◌, inl, inr, refl, ◌∙◌, ap, arith, Option, Some, None, nat_lt, is_some}
 use Rattle.std.proofs.lemmas.Bool.{lt-ltb}
-use Rattle.claim_history.specs.declared.board.Slot.{Slot}
+use Rattle.claim_core.specs.declared.board.Slot.{Slot}
 use Rattle.claim_board.specs.View.{mark_of, word_of, turn_in, held_in}
 
 pub cases_Option : (o : Option ℕ) → (o ≡ None) ⊎ ((w : ℕ) × (o ≡ Some w))

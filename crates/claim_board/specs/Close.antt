@@ -6,8 +6,8 @@ use Rattle.qccd_base.specs.Resource.{among}
 use Rattle.op_table.specs.declared.kinds.OpKind.{OpKind}
 use Rattle.op_table.specs.Touch.{nth}
 use Rattle.op_cells.specs.Numbering.{index_of}
-use Rattle.claim_core.specs.Program.{ProgramData}
-use Rattle.claim_history.specs.Event.{touched}
+use Rattle.qccd_program.specs.Program.{ProgramData}
+use Rattle.claim_core.specs.Event.{touched}
 
 -- each resource of the operation has come to its turn at most, or each is past it
 abbrev pub NotBegun : List OpKind → (Res → ℕ) → ℕ → Type 0

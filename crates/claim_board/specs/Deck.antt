@@ -2,9 +2,9 @@
 use Rattle.std.specs.Prelude.{◌≡◌, ◌⊎◌, ℕ, ◌+◌, ◌<◌, ◌≤◌, true, List, [], ◌∷◌, length, sum_by, All, Some, None, slice_get}
 use Rattle.qccd_base.specs.declared.names.Res.{Res}
 use Rattle.op_cells.specs.declared.cells.Held.{Held}
-use Rattle.claim_core.specs.Program.{ProgramData}
-use Rattle.claim_history.specs.Board.{is_there, width}
-use Rattle.claim_history.specs.Event.{touched}
+use Rattle.qccd_program.specs.Program.{ProgramData}
+use Rattle.claim_core.specs.Board.{is_there, width}
+use Rattle.claim_core.specs.Event.{touched}
 use Rattle.claim_board.specs.declared.deck.Deck.{Deck}
 use Rattle.claim_board.specs.declared.pass.Pass.{Pass}
 use Rattle.claim_board.specs.declared.view.View.{View}

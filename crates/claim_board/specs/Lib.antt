@@ -5,4 +5,5 @@ pub mod Lent
 pub mod Pass
 pub mod Plays
 pub mod Rule
+pub mod Stepping
 pub mod View

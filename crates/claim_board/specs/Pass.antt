@@ -6,10 +6,10 @@ use Rattle.op_table.specs.Touch.{nth}
 use Rattle.op_cells.specs.declared.cells.Cell.{Cell}
 use Rattle.op_cells.specs.declared.cells.Held.{Held}
 use Rattle.op_cells.specs.Numbering.{index_of}
-use Rattle.claim_core.specs.CellOfRun.{IsCell}
-use Rattle.claim_core.specs.Program.{ProgramData}
-use Rattle.claim_history.specs.Board.{is_there, width, flag_at}
-use Rattle.claim_history.specs.Event.{touched}
+use Rattle.qccd_program.specs.CellOfRun.{IsCell}
+use Rattle.qccd_program.specs.Program.{ProgramData}
+use Rattle.claim_core.specs.Board.{is_there, width, flag_at}
+use Rattle.claim_core.specs.Event.{touched}
 use Rattle.claim_board.specs.declared.claimed.Claimed.{Claimed}
 use Rattle.claim_board.specs.declared.claimed.Claimed.TheVariants.{Got, NotNow, Gone}
 use Rattle.claim_board.specs.declared.view.View.{View}

@@ -8,10 +8,10 @@ use Rattle.op_table.specs.Touch.{nth, is_head}
 use Rattle.op_cells.specs.declared.cells.Cell.{Cell}
 use Rattle.op_cells.specs.Numbering.{index_of}
 use Rattle.atomic_table.specs.Table.{Me, Step, rest}
-use Rattle.claim_core.specs.CellOfRun.{IsCell}
-use Rattle.claim_core.specs.Program.{ProgramData, program_data}
-use Rattle.claim_history.specs.Board.{flag_at, no_flags}
-use Rattle.claim_history.specs.Event.{touched, with_flag, left_in_hand}
+use Rattle.qccd_program.specs.CellOfRun.{IsCell}
+use Rattle.qccd_program.specs.Program.{ProgramData, program_data}
+use Rattle.claim_core.specs.Board.{flag_at, no_flags}
+use Rattle.claim_core.specs.Event.{touched, with_flag, left_in_hand}
 use Rattle.claim_board.specs.declared.view.View.{View}
 use Rattle.claim_board.specs.View.{turn_in, held_in, seen_of, seen_also, greater_of}
 use Rattle.claim_board.specs.Rule.{fresh_view}

@@ -8,13 +8,13 @@ use Rattle.qccd_base.specs.declared.names.Res.{Res}
 use Rattle.op_cells.specs.declared.cells.Cell.{Cell}
 use Rattle.op_cells.specs.Numbering.{index_of}
 use Rattle.atomic_table.specs.Table.{State}
-use Rattle.claim_core.specs.CellOfRun.{IsCell}
-use Rattle.claim_core.specs.Legal.{IsLegalProgram}
-use Rattle.claim_core.specs.Program.{ProgramData}
-use Rattle.claim_history.specs.declared.event.Event.{Event}
-use Rattle.claim_history.specs.declared.event.Event.TheVariants.{Begin, Reach, Give}
-use Rattle.claim_history.specs.Board.{BoardData, is_there, width, slot_at, turn_at, holder_at, hand_at, no_flags}
-use Rattle.claim_history.specs.History.{IsHistory, board_of}
+use Rattle.qccd_program.specs.CellOfRun.{IsCell}
+use Rattle.qccd_program.specs.Legal.{IsLegalProgram}
+use Rattle.qccd_program.specs.Program.{ProgramData}
+use Rattle.claim_core.specs.declared.event.Event.{Event}
+use Rattle.claim_core.specs.declared.event.Event.TheVariants.{Begin, Reach, Give}
+use Rattle.claim_core.specs.Board.{BoardData, is_there, width, slot_at, turn_at, holder_at, hand_at, no_flags}
+use Rattle.claim_core.specs.History.{IsHistory, board_of}
 use Rattle.claim_board.specs.declared.view.Key.{Key}
 use Rattle.claim_board.specs.declared.view.View.{View}
 use Rattle.claim_board.specs.View.{word_of, hand_of, seen_of}

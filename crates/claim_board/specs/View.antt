@@ -2,8 +2,8 @@
 use Rattle.std.specs.Prelude.{ℕ, ◌+◌, ◌*◌, ◌/◌, ◌%◌, Bool, nat_lt, List, [], ◌∷◌, set, get_or, max, Option, Some, None}
 use Rattle.qccd_base.specs.declared.names.Res.{Res}
 use Rattle.op_cells.specs.Numbering.{index_of}
-use Rattle.claim_history.specs.declared.board.Slot.{Slot}
-use Rattle.claim_history.specs.Board.{HandData}
+use Rattle.claim_core.specs.declared.board.Slot.{Slot}
+use Rattle.claim_core.specs.Board.{HandData}
 use Rattle.claim_board.specs.declared.view.View.{View}
 
 -- a word holds a turn, and a holder or none: 32 times the turn, and the holder's number and 1

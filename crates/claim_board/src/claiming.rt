@@ -3,7 +3,7 @@
 ghost use Rattle.std.specs.Prelude.{◌≡◌, ◌+◌, ◌<◌, ◌≤◌, ℕ, true, length, Some};
 ghost use Rattle.qccd_base.specs.declared.names.Res.{Res};
 ghost use Rattle.qccd_base.specs.Resource.{among};
-ghost use Rattle.claim_history.specs.Event.{touched};
+ghost use Rattle.claim_core.specs.Event.{touched};
 ghost use Rattle.claim_board.specs.Deck.{HoldsNext, IsEmpty, Together, cells_of, view_of};
 ghost use Rattle.claim_board.specs.Pass.{Answered, Kept, next_turn};
 ghost use Rattle.claim_board.specs.View.{seen_of};
@@ -14,7 +14,7 @@ use crate::giving::give_all;
 use crate::pass::Pass;
 use crate::reading::look_at_all;
 use crate::taking::take_all;
-use claim_core::Program;
+use qccd_program::Program;
 
 impl Deck {
     /// Claims an operation for a pass that has nothing in hand. It looks at each of the operation's resources and,

@@ -4,8 +4,8 @@ ghost use Rattle.std.specs.Prelude.{◌≡◌, ◌⊎◌, ◌<◌, ◌≤◌, �
 ghost use Rattle.std.specs.Slots.{slots_items, slots_len, IsFull};
 ghost use Rattle.qccd_base.specs.declared.names.Res.{Res};
 ghost use Rattle.op_cells.specs.declared.cells.Cell.{Cell};
-ghost use Rattle.claim_core.specs.AllCells.{AtTurns};
-ghost use Rattle.claim_history.specs.Board.{is_there, width};
+ghost use Rattle.qccd_program.specs.AllCells.{AtTurns};
+ghost use Rattle.claim_core.specs.Board.{is_there, width};
 ghost use Rattle.claim_board.specs.declared.pass.Pass.{Pass};
 ghost use Rattle.claim_board.specs.Close.{IsAtRest, turn_of};
 ghost use Rattle.claim_board.specs.Deck.{AreAll, HasJoined, program_of, view_of};

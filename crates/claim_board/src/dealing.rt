@@ -2,9 +2,9 @@
 
 ghost use Rattle.std.specs.Prelude.{◌≡◌, ◌+◌, ◌<◌, ◌≤◌, ℕ, List, [], IfOk, length, map, Some, vec_capacity};
 ghost use Rattle.op_cells.specs.declared.cells.Cell.{Cell};
-ghost use Rattle.claim_core.specs.AllCells.{AtStep};
-ghost use Rattle.claim_history.specs.Board.{width};
-ghost use Rattle.claim_history.specs.Event.{touched};
+ghost use Rattle.qccd_program.specs.AllCells.{AtStep};
+ghost use Rattle.claim_core.specs.Board.{width};
+ghost use Rattle.claim_core.specs.Event.{touched};
 ghost use Rattle.claim_board.specs.Deck.{AreDealt, IsDealt, program_of, workers_of};
 ghost use Rattle.claim_board.specs.Rule.{fresh_view};
 
@@ -13,9 +13,9 @@ use crate::pass::{Bounds, Pass};
 use crate::steps::cut;
 use crate::view::{Key, Place};
 use atomic_table::Table;
-use claim_core::Program;
 use op_cells::{Cell, count_of};
 use qccd_base::NoMemory;
+use qccd_program::Program;
 use std::alloc::Global;
 use std::snapshot::Snapshot;
 

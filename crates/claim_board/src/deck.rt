@@ -1,7 +1,7 @@
 //! The deck: a program's resources, each with a word and a slot, shared by many threads.
 
 ghost use Rattle.std.specs.Prelude.{◌≡◌, ◌<◌, ◌≤◌, [], vec_capacity};
-ghost use Rattle.claim_history.specs.Board.{width};
+ghost use Rattle.claim_core.specs.Board.{width};
 
 use crate::view::Words;
 use op_cells::Cell;

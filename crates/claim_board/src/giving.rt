@@ -3,16 +3,16 @@
 ghost use Rattle.std.specs.Prelude.{◌≡◌, ◌+◌, ◌<◌, ◌≤◌, ℕ, List, [], None, Some, length, take, vec_capacity, slice_get};
 ghost use Rattle.op_cells.specs.declared.cells.Held.{Held};
 ghost use Rattle.qccd_base.specs.declared.names.Res.{Res};
-ghost use Rattle.claim_core.specs.CellOfRun.{IsCell};
-ghost use Rattle.claim_history.specs.Event.{touched};
+ghost use Rattle.qccd_program.specs.CellOfRun.{IsCell};
+ghost use Rattle.claim_core.specs.Event.{touched};
 ghost use Rattle.claim_board.specs.declared.view.View.{View};
 ghost use Rattle.claim_board.specs.Pass.{AreCells, HasGiven, IsWhole, Sits, next_turn};
 
 use crate::reading::{index_in, needed, note};
 use crate::steps::give;
 use crate::view::{Place, Top};
-use claim_core::Program;
 use op_cells::Held;
+use qccd_program::Program;
 
 /// Puts the cell of the n-th resource of the operation in hand home, and gives the resource back.
 pub(crate) fn give_one(

@@ -1,8 +1,8 @@
 //! A worker's part of a deck.
 
 ghost use Rattle.std.specs.Prelude.{◌≡◌, ◌+◌, ◌<◌, ◌≤◌, ℕ, [], true, None, Some, length, vec_capacity, vec_len};
-ghost use Rattle.claim_history.specs.Board.{width};
-ghost use Rattle.claim_history.specs.Event.{touched};
+ghost use Rattle.claim_core.specs.Board.{width};
+ghost use Rattle.claim_core.specs.Event.{touched};
 ghost use Rattle.claim_board.specs.Pass.{IsWhole};
 
 use crate::view::Place;

@@ -2,7 +2,7 @@
 
 ghost use Rattle.std.specs.Prelude.{◌≡◌, true, [], None};
 ghost use Rattle.std.specs.Borrow.{sem};
-ghost use Rattle.claim_history.specs.Board.{is_there};
+ghost use Rattle.claim_core.specs.Board.{is_there};
 ghost use Rattle.claim_board.specs.Deck.{IsEmpty, cells_of, view_of};
 ghost use Rattle.claim_board.specs.Lent.{LendsCells};
 ghost use Rattle.claim_board.specs.View.{seen_of};

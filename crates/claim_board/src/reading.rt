@@ -5,8 +5,8 @@ ghost use Rattle.qccd_base.specs.declared.names.Res.{Res};
 ghost use Rattle.qccd_base.specs.Resource.{among};
 ghost use Rattle.op_cells.specs.Numbering.{index_of};
 ghost use Rattle.op_table.specs.Touch.{nth};
-ghost use Rattle.claim_history.specs.Board.{is_there};
-ghost use Rattle.claim_history.specs.Event.{touched};
+ghost use Rattle.claim_core.specs.Board.{is_there};
+ghost use Rattle.claim_core.specs.Event.{touched};
 ghost use Rattle.claim_board.specs.Pass.{Answered, Looked, Sits, told, why_not};
 ghost use Rattle.claim_board.specs.Plays.{after_look};
 ghost use Rattle.claim_board.specs.View.{seen_also, seen_of, turn_in};
@@ -14,9 +14,9 @@ ghost use Rattle.claim_board.specs.View.{seen_also, seen_of, turn_in};
 use crate::claimed::Claimed;
 use crate::steps::look;
 use crate::view::{Place, Top};
-use claim_core::Program;
 use op_cells::index_of;
 use qccd_base::Res;
+use qccd_program::Program;
 
 /// Notes that a resource was seen at this turn.
 pub(crate) fn note(seen: &mut Vec<u32>, i: usize, turn: u32)
@@ -27,7 +27,7 @@ pub(crate) fn note(seen: &mut Vec<u32>, i: usize, turn: u32)
 }
 
 /// What an operation touches.
-#[tactic(auto, using(claim_history::proofs::Coded::listed))]
+#[tactic(auto, using(claim_core::proofs::Coded::listed))]
 pub(crate) fn touched_by(program: &Program, op: u32) -> &[Res]
     requires op { op < length program.now.ops }
     ensures { result.now ≡ touched program.now.ops op }

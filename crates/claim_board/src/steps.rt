@@ -6,8 +6,8 @@ ghost use Rattle.op_cells.specs.declared.cells.Cell.{Cell};
 ghost use Rattle.op_cells.specs.Numbering.{index_of};
 ghost use Rattle.op_table.specs.Touch.{nth};
 ghost use Rattle.atomic_table.specs.Table.{rest};
-ghost use Rattle.claim_core.specs.CellOfRun.{IsCell};
-ghost use Rattle.claim_history.specs.Board.{is_there};
+ghost use Rattle.qccd_program.specs.CellOfRun.{IsCell};
+ghost use Rattle.claim_core.specs.Board.{is_there};
 ghost use Rattle.claim_board.specs.Plays.{MayBegin, MayGive, MayReach, Takes, after_begin, after_give, after_look, after_reach, comes, joined, stays};
 ghost use Rattle.claim_board.specs.View.{turn_in};
 

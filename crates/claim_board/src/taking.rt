@@ -7,7 +7,7 @@ ghost use Rattle.op_cells.specs.declared.cells.Cell.{Cell};
 ghost use Rattle.op_cells.specs.Numbering.{index_of};
 ghost use Rattle.op_table.specs.Touch.{nth};
 ghost use Rattle.atomic_table.specs.Table.{rest};
-ghost use Rattle.claim_history.specs.Event.{touched};
+ghost use Rattle.claim_core.specs.Event.{touched};
 ghost use Rattle.claim_board.specs.declared.view.View.{View};
 ghost use Rattle.claim_board.specs.Pass.{Answered, HasTaken, Looked, Sits};
 ghost use Rattle.claim_board.specs.Plays.{MayBegin, Takes, after_begin};
@@ -17,9 +17,9 @@ use crate::claimed::Claimed;
 use crate::reading::{index_in, needed, note, touched_by, why_not};
 use crate::steps::{begin, reach};
 use crate::view::{Place, Top};
-use claim_core::Program;
 use op_cells::Held;
 use qccd_base::Res;
+use qccd_program::Program;
 
 /// Begins an operation at its first resource, or tells why that is not free at the operation's turn.
 pub(crate) fn begin_at(

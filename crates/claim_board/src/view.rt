@@ -1,8 +1,8 @@
 //! What the words and the slots of a deck stand for, and what a pass knows of them.
 
 use atomic_table::{Seat, Shared, Table, TableRule};
-use claim_core::Program;
 use op_cells::Cell;
+use qccd_program::Program;
 use std::alloc::Global;
 use std::snapshot::Snapshot;
 

@@ -1,49 +1,42 @@
--- The program of the example is legal.
-use Rattle.std.proofs.lemmas.Bool.{ne_eqb, le-ltb, lt-ltb}
-use Rattle.std.proofs.Common.{◌≡◌, ◌≢◌, ◌≤◌, ◌<◌, Bool, true, false, cond, not, ◌||◌, ◌&&◌, if◌then◌else◌, nat_lt, get_or, ℕ, zero, suc, List, [], ◌∷◌, length, refl, ap, arith, ◌∙◌}
-use Rattle.std.specs.Prelude.{codes, count_by, flat_map, replicate, ◌==◌, ◌++◌, ◌+◌}
-use Rattle.std.specs.List.{AllByRecursion}
-use Rattle.qccd_circuit.specs.Item.{Fits, IsGateName, ItemData}
-use Rattle.qccd_circuit.specs.Example.{cx_on}
-use Rattle.qccd_base.specs.FirstFailing.{first_failing}
-use Rattle.op_table.specs.declared.kinds.OpKind.{OpKind}
-use Rattle.op_table.specs.declared.kinds.Why.TheVariants.{NoPlace, Position}
-use Rattle.op_table.specs.State.{State, Stand, ions_in, is_in_trap}
-use Rattle.op_table.specs.Step.{effect, swapped}
-use Rattle.op_table.proofs.Counts.{count_by-map}
-use Rattle.op_table.specs.Op.{IsOp, KeepsItemRule}
-use Rattle.op_table.specs.Run.{IsRun, items_in}
+-- The program of the example is legal, and its barrier is the least that is not finished.
+use Rattle.std.proofs.Common.{◌≡◌, ◌≢◌, ◌≤◌, ◌<◌, inl, inr, Bool, true, false, cond, not, ◌||◌, ◌&&◌, if◌then◌else◌, nat_lt, get_or, ℕ, zero, suc, List, [], ◌∷◌, length, refl, sym, ap, subst, arith, ◌∙◌}
+use Rattle.std.proofs.lemmas.Bool.{ne_eqb, le-ltb, false≢true, or_cases, eqb-true}
+use Rattle.std.specs.Prelude.{codes, count_by, flat_map, ◌==◌, ◌+◌}
+use Rattle.qccd_base.specs.declared.names.Res.{Res}
+use Rattle.qccd_base.specs.Resource.{among, same_res}
+use Rattle.qccd_base.proofs.Resources.{same_res-true}
+use Rattle.qccd_circuit.specs.Item.{Fits, IsGateName}
+use Rattle.qccd_circuit.specs.Example.{h_on}
+use Rattle.op_table.specs.Run.{items_in}
 use Rattle.op_table.specs.Start.{IsStart}
-use Rattle.op_table.specs.Example.{pair}
-use Rattle.claim_core.specs.Example.{x_on, start_chains, eight_ops, two_gates_and_one, exchange, exchanges}
-use Rattle.qccd_base.specs.declared.names.Ion.{Ion}
-use Rattle.qccd_machine.specs.Machine.{MachineData}
-use Rattle.claim_core.specs.Program.{program_data, opening_of}
-use Rattle.claim_core.specs.Legal.{IsLegalProgram}
+use Rattle.qccd_program.specs.Legal.{IsLegalProgram}
+use Rattle.claim_core.specs.Enabled.{IsEnabled, IsFinished, IsLeastUnfinished, IsReady}
+use Rattle.claim_core.specs.Event.{touched}
+use Rattle.claim_core.specs.Example.{both, fenced, fence_begun, first_trap, second_trap}
 
--- a number past these is none of them
 not_this : (k n : ℕ) → k < n → cond {A = ℕ} (k == n) 1 0 ≡ 0
 not_this k n less = ap (λ (b : Bool). cond {A = ℕ} b 1 0) (ne_eqb k n (λ same. omega (arith, same, less)))
 
 not_below : (k n : ℕ) → n ≤ k → cond {A = ℕ} (nat_lt k n) 1 0 ≡ 0
 not_below k n past = ap (λ (b : Bool). cond {A = ℕ} b 1 0) (le-ltb k n past)
 
-starts_so : IsStart pair 4 start_chains
+starts_so : IsStart fenced.machine 2 fenced.start
 starts_so = record { chains = refl; capacities = within; once = one }
   where
-    within : (t : ℕ) → length (get_or start_chains t []) ≤ get_or pair.capacities t 0
+    within : (t : ℕ) → length (get_or fenced.start t []) ≤ get_or fenced.machine.capacities t 0
     within zero = omega arith
     within (suc zero) = omega arith
-    within (suc (suc t)) = omega arith
+    within (suc (suc zero)) = omega arith
+    within (suc (suc (suc zero))) = omega arith
+    within (suc (suc (suc (suc zero)))) = omega arith
+    within (suc (suc (suc (suc (suc zero))))) = omega arith
+    within (suc (suc (suc (suc (suc (suc t)))))) = omega arith
 
-    one : (i : ℕ) → count_by (λ x. x.0 == i) (flat_map (λ chain. chain) start_chains) ≡ (if nat_lt i 4 then 1 else 0)
+    one : (i : ℕ) → count_by (λ x. x.0 == i) (flat_map (λ chain. chain) fenced.start) ≡ (if nat_lt i 2 then 1 else 0)
     one zero = refl
     one (suc zero) = refl
-    one (suc (suc zero)) = refl
-    one (suc (suc (suc zero))) = refl
-    one (suc (suc (suc (suc i)))) =
-        let n : ℕ = suc (suc (suc (suc i))) in
-        omega (arith, not_this 0 n (omega arith), not_this 1 n (omega arith), not_this 2 n (omega arith), not_this 3 n (omega arith), not_below n 4 (omega arith))
+    one (suc (suc i)) =
+        let n : ℕ = suc (suc i) in omega (arith, not_this 0 n (omega arith), not_this 1 n (omega arith), not_below n 2 (omega arith))
 
 other_length : (xs ys : List ℕ) → length xs ≢ length ys → xs ≢ ys
 other_length xs ys apart same = apart (ap (λ (zs : List ℕ). length zs) same)
@@ -52,84 +45,53 @@ gate_name : (name : List ℕ) → length name ≤ 2 → IsGateName name
 gate_name name short =
     (other_length name (codes "measure") (λ e. omega (arith, e, short)), other_length name (codes "reset") (λ e. omega (arith, e, short)), other_length name (codes "barrier") (λ e. omega (arith, e, short)))
 
-cx_fits : (p q : ℕ) → (q == p) ≡ false → Fits (cx_on p q)
-cx_fits p q apart = record {
-  name = (refl, omega arith);
-  angles = (refl, omega arith);
-  cond = tt;
-  distinct = ap (λ (b : Bool). not (b || false) && true) apart;
-  kind = (refl, refl, gate_name (codes "cx") (omega arith));
-}
+pub h_fits : (q : ℕ) → Fits (h_on q)
+h_fits q = record { name = (refl, omega arith); angles = (refl, omega arith); cond = tt; distinct = refl; kind = (refl, refl, gate_name (codes "h") (omega arith)) }
 
-x_fits : (q : ℕ) → Fits (x_on q)
-x_fits q = record {
-  name = (refl, omega arith);
-  angles = (refl, omega arith);
-  cond = tt;
-  distinct = refl;
-  kind = (refl, refl, gate_name (codes "x") (omega arith));
-}
+pub both_fits : Fits both
+both_fits = record { name = (refl, omega arith); angles = (refl, omega arith); cond = tt; distinct = refl; kind = (omega arith, refl, refl, refl, refl) }
 
-once_each : (number : ℕ) → count_by (λ e. e.0 == number) (items_in eight_ops) ≤ 1
+once_each : (number : ℕ) → count_by (λ e. e.0 == number) (items_in fenced.ops) ≤ 1
 once_each zero = omega arith
 once_each (suc zero) = omega arith
 once_each (suc (suc zero)) = omega arith
 once_each (suc (suc (suc number))) =
-    let n : ℕ = suc (suc (suc number)) in
-    omega (arith, not_this 0 n (omega arith), not_this 1 n (omega arith), not_this 2 n (omega arith))
+    let n : ℕ = suc (suc (suc number)) in omega (arith, not_this 0 n (omega arith), not_this 1 n (omega arith), not_this 2 n (omega arith))
 
-pub example-legal : IsLegalProgram two_gates_and_one
-example-legal = record {
+pub fenced-legal : IsLegalProgram fenced
+fenced-legal = record {
   qubits = omega arith;
   bits = omega arith;
   few = omega arith;
   start = starts_so;
-  ops = (((λ h. cc), refl), (((λ h. cc), refl), (tt, (tt, (tt, (tt, (tt, (((λ h. cc), refl), tt))))))));
-  items_fit = (cx_fits 0 1 refl, (x_fits 2, (tt, (tt, (tt, (tt, (tt, (cx_fits 0 3 refl, tt))))))));
-  run = (refl, (refl, (refl, (refl, (refl, (refl, (refl, (refl, tt))))))));
+  ops = (((λ h. cc), refl), ((refl, omega arith, refl), (((λ h. cc), refl), tt)));
+  items_fit = (h_fits 0, (both_fits, (h_fits 1, tt)));
+  run = (refl, (refl, (refl, tt)));
   once = once_each;
 }
 
-exchange_run : (s : State) (n : ℕ) → 2 ≤ ions_in s 0 → IsRun pair s (replicate n exchange)
-exchange_run s zero two = tt
-exchange_run s (suc n) two =
-    let both : nat_lt 1 (ions_in s 0) ≡ true = lt-ltb 1 (ions_in s 0) (omega (arith, two)) in
-    let same : ions_in (effect pair s exchange) 0 ≡ ions_in s 0 = count_by-map (λ (w : Stand). is_in_trap 0 w.place) (λ (w : Stand). record w { qubit = swapped s 0 0 1 w }) s.ions in
-    (ap (λ (b : Bool). first_failing ((NoPlace, true) ∷ (Position, b) ∷ [])) both, exchange_run (effect pair s exchange) n (omega (arith, same, two)))
+one_trap : (P : Res → Type 0) (t r : Res) → P t → among (t ∷ []) r ≡ true → P r
+one_trap P t r holds at = elim (or_cases (same_res t r) false at) [
+  | inl is ↦ subst P (same_res-true t r is) holds
+  | inr none ↦ absurd (false≢true none)
+]
 
-all_replicated : (P : OpKind → Type 0) (n : ℕ) → P exchange → AllByRecursion P (replicate n exchange)
-all_replicated P zero p = tt
-all_replicated P (suc n) p = (p, all_replicated P n p)
+two_traps : (P : Res → Type 0) (t u r : Res) → P t → P u → among (t ∷ u ∷ []) r ≡ true → P r
+two_traps P t u r first second at = elim (or_cases (same_res t r) (among (u ∷ []) r) at) [
+  | inl is ↦ subst P (same_res-true t r is) first
+  | inr rest ↦ one_trap P u r second rest
+]
 
-no_items : (n : ℕ) → items_in (replicate n exchange) ≡ []
-no_items zero = refl
-no_items (suc n) = no_items n
-
-length_replicated : (n : ℕ) → length (replicate n exchange) ≡ n
-length_replicated zero = refl
-length_replicated (suc n) = ap suc (length_replicated n)
-
-pub exchanges-legal : (n : ℕ) → n ≤ 4194304 → IsLegalProgram (exchanges n)
-exchanges-legal n few = record {
-  qubits = omega arith;
-  bits = omega arith;
-  few = omega (arith, few, length_replicated n);
-  start = starts_so;
-  ops = all_replicated IsOp n (omega arith);
-  items_fit = all_replicated KeepsItemRule n tt;
-  run = exchange_run (opening_of two_gates_and_one) n (omega arith);
-  once = λ number. let none = ap (λ (es : List (ℕ × ItemData)). count_by (λ (e : ℕ × ItemData). e.0 == number) es) (no_items n) in omega (arith, none);
+pub barrier-least : IsLeastUnfinished fenced fence_begun 1
+barrier-least = record {
+  there = omega arith;
+  unfinished = λ done. let past = done first_trap refl in omega (arith, past);
+  before = λ j less. first j less;
 }
-
-pub replicated-next : (ops : List OpKind) (n : ℕ) → ops ≡ replicate n exchange → ops ++ exchange ∷ [] ≡ replicate (n + 1) exchange
-replicated-next ops n is = ap (λ (os : List OpKind). os ++ exchange ∷ []) is ∙ one_more n ∙ ap (λ (k : ℕ). replicate k exchange) (one n)
   where
-    one : (n : ℕ) → suc n ≡ n + 1
-    one n = omega arith
+    first : (j : ℕ) → j < 1 → IsFinished fenced fence_begun j
+    first zero less r at = one_trap (λ q. Rattle.op_table.specs.Touch.nth fenced.ops 0 q < Rattle.claim_core.specs.Board.turn_at fenced fence_begun q) first_trap r (omega arith) at
+    first (suc j) less r at = absurd (omega (arith, less))
 
-    one_more : (n : ℕ) → replicate n exchange ++ exchange ∷ [] ≡ replicate (suc n) exchange
-    one_more zero = refl
-    one_more (suc n) = ap (λ (os : List OpKind). exchange ∷ os) (one_more n)
-
-pub exchanges-read : (m : MachineData) (start : List (List Ion)) (ops : List OpKind) (n k : ℕ) → m ≡ pair → start ≡ start_chains → ops ≡ replicate k exchange → k ≡ n → program_data m 4 0 start ops ≡ exchanges n
-exchanges-read m start ops n k machine chains made all = λ i. program_data (machine i) 4 0 (chains i) ((made ∙ ap (λ (j : ℕ). replicate j exchange) all) i)
+pub barrier-enabled : IsEnabled fenced fence_begun 1
+barrier-enabled r at = two_traps (IsReady fenced fence_begun 1) first_trap second_trap r (inr (inl (1, refl, refl))) (inl (refl, refl)) at

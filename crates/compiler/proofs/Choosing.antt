@@ -24,20 +24,19 @@ use Rattle.op_table.specs.State.{Stand, State, is_in_junction, is_on_segment, op
 use Rattle.op_table.proofs.Openings.{opening-safe, opening_long, in_trap_only}
 use Rattle.op_plan.specs.Place.{qubits_in}
 use Rattle.op_plan.proofs.Runs.{after_append}
-use Rattle.claim_core.specs.Implements.{Implements}
-use Rattle.claim_core.specs.Legal.{IsLegalProgram}
+use Rattle.qccd_program.specs.Implements.{Implements}
+use Rattle.qccd_program.specs.Legal.{IsLegalProgram}
 use Rattle.chain_reorder.proofs.Lists.{count_by-cons}
-use Rattle.ion_mapping.specs.Placement.{placed}
+use Rattle.ion_mapping.specs.Placement.{chains_at_start}
 use Rattle.ion_mapping.proofs.Filling.{placed_long, placed_fits, placed_once}
 use Rattle.ion_mapping.proofs.Firsts.{once_long}
-use Rattle.gate_scheduler.specs.Order.{order}
-use Rattle.gate_scheduler.proofs.Ordered.{same_order}
 use Rattle.rebalancer.specs.Outside.{NothingOutside}
 use Rattle.rebalancer.proofs.Plain.{ops_bits, ops_long}
 use Rattle.rebalancer.proofs.Room.{Rests}
 use Rattle.rebalancer.proofs.Settled.{rests_own}
 use Rattle.compiler.specs.Items.{item_ops, items_ops}
-use Rattle.compiler.specs.Chosen.{numbered, with_item, chosen, chosen_first, chosen_long, IsTooLong}
+use Rattle.compiler.specs.Chosen.{numbered, with_item, chosen, chosen_first, chosen_long, picked, IsTooLong}
+use Rattle.compiler.proofs.Picked.{picked_order}
 use Rattle.compiler.proofs.Doing.{Fitting, ItemDone, ItemsDone, item_done, items_done}
 
 -- ---- the items of the numbers
@@ -114,7 +113,7 @@ slots_less m n valid slots two =
 
 -- ---- the start
 
-pub placed_start : (c : CircuitData) (m : MachineData) → IsCircuit c → IsValid m → c.qubits ≤ slots_of m → IsStart m c.qubits (placed c m)
+pub placed_start : (c : CircuitData) (m : MachineData) → IsCircuit c → IsValid m → c.qubits ≤ slots_of m → IsStart m c.qubits (chains_at_start c m)
 placed_start c m circuit valid slots = record {
   chains = placed_long c m;
   capacities = λ t. placed_fits c m t valid;
@@ -147,28 +146,28 @@ numbered_fitting c numbers circuit = all_numbered (λ (e : ℕ × ItemData). Fit
     }) numbers
 
 pub chosen_runs : (c : CircuitData) (m : MachineData) (mode : Mode) (count : ℕ) → IsCircuit c → IsValid m → c.qubits ≤ slots_of m
-    → ItemsDone m (opening c.qubits c.bits (placed c m)) (qubits_in (opening c.qubits c.bits (placed c m))) (numbered c.items (take count (order c.items))) (chosen_first c m mode count).ops
+    → ItemsDone m (opening c.qubits c.bits (chains_at_start c m)) (qubits_in (opening c.qubits c.bits (chains_at_start c m))) (numbered c.items (take count (picked c m mode))) (chosen_first c m mode count).ops
 unfolding chosen_first
 chosen_runs c m mode count circuit valid slots =
-    let s : State = opening c.qubits c.bits (placed c m) in
-    let items : List (ℕ × ItemData) = numbered c.items (take count (order c.items)) in
-    let long : length s.ions ≡ c.qubits = opening_long c.qubits c.bits (placed c m) in
-    let fitting : AllByRecursion (λ (e : ℕ × ItemData). Fitting (length s.ions) s.bits e.1) items = subst (λ (n : ℕ). AllByRecursion (λ (e : ℕ × ItemData). Fitting n c.bits e.1) items) (sym long) (numbered_fitting c (take count (order c.items)) circuit) in
-    items_done m mode valid items s (qubits_in s) fitting (opening_rests m c.qubits c.bits (placed c m) (placed_start c m circuit valid slots)) (λ two. omega (arith, long, slots_less m c.qubits valid slots two))
+    let s : State = opening c.qubits c.bits (chains_at_start c m) in
+    let items : List (ℕ × ItemData) = numbered c.items (take count (picked c m mode)) in
+    let long : length s.ions ≡ c.qubits = opening_long c.qubits c.bits (chains_at_start c m) in
+    let fitting : AllByRecursion (λ (e : ℕ × ItemData). Fitting (length s.ions) s.bits e.1) items = subst (λ (n : ℕ). AllByRecursion (λ (e : ℕ × ItemData). Fitting n c.bits e.1) items) (sym long) (numbered_fitting c (take count (picked c m mode)) circuit) in
+    items_done m mode valid items s (qubits_in s) fitting (opening_rests m c.qubits c.bits (chains_at_start c m) (placed_start c m circuit valid slots)) (λ two. omega (arith, long, slots_less m c.qubits valid slots two))
 
 -- ---- all items
 
-all_taken : (c : CircuitData) → take (length c.items) (order c.items) ≡ order c.items
-all_taken c =
-    let long : length (order c.items) ≡ length c.items = once_long (length c.items) (order c.items) (same_order c.items).once in
-    take_all (length c.items) (order c.items) (omega arith)
+all_taken : (c : CircuitData) (m : MachineData) (mode : Mode) → take (length c.items) (picked c m mode) ≡ picked c m mode
+all_taken c m mode =
+    let long : length (picked c m mode) ≡ length c.items = once_long (length c.items) (picked c m mode) (picked_order c m mode).once in
+    take_all (length c.items) (picked c m mode) (omega arith)
 
-pub chosen_does : (c : CircuitData) (m : MachineData) (mode : Mode) → IsCircuit c → IsValid m → c.qubits ≤ slots_of m → items_in (chosen c m mode).ops ≡ numbered c.items (order c.items)
-chosen_does c m mode circuit valid slots = (chosen_runs c m mode (length c.items) circuit valid slots).does ∙ ap (numbered c.items) (all_taken c)
+pub chosen_does : (c : CircuitData) (m : MachineData) (mode : Mode) → IsCircuit c → IsValid m → c.qubits ≤ slots_of m → items_in (chosen c m mode).ops ≡ numbered c.items (picked c m mode)
+chosen_does c m mode circuit valid slots = (chosen_runs c m mode (length c.items) circuit valid slots).does ∙ ap (numbered c.items) (all_taken c m mode)
 
-pub chosen_order : (c : CircuitData) (m : MachineData) (mode : Mode) → IsCircuit c → IsValid m → c.qubits ≤ slots_of m → map (λ (e : ℕ × ItemData). e.0) (items_in (chosen c m mode).ops) ≡ order c.items
+pub chosen_order : (c : CircuitData) (m : MachineData) (mode : Mode) → IsCircuit c → IsValid m → c.qubits ≤ slots_of m → map (λ (e : ℕ × ItemData). e.0) (items_in (chosen c m mode).ops) ≡ picked c m mode
 chosen_order c m mode circuit valid slots =
-    ap (map (λ (e : ℕ × ItemData). e.0)) (chosen_does c m mode circuit valid slots) ∙ numbers_of c.items (order c.items) (all_times (length c.items) (order c.items) (same_order c.items).once)
+    ap (map (λ (e : ℕ × ItemData). e.0)) (chosen_does c m mode circuit valid slots) ∙ numbers_of c.items (picked c m mode) (all_times (length c.items) (picked c m mode) (picked_order c m mode).once)
 
 pub chosen_implements : (c : CircuitData) (m : MachineData) (mode : Mode) → IsCircuit c → IsValid m → c.qubits ≤ slots_of m → Implements (chosen c m mode) c m
 unfolding chosen_first
@@ -182,8 +181,8 @@ chosen_implements c m mode circuit valid slots =
       ops = done.kept;
       run = done.run;
       items = subst (All (λ (e : ℕ × ItemData). slice_get c.items e.0 ≡ Some e.1)) (sym (chosen_does c m mode circuit valid slots))
-          (All-from_recursion _ _ (all_numbered (λ (e : ℕ × ItemData). slice_get c.items e.0 ≡ Some e.1) c.items (λ i item is. is) (order c.items)));
-      order = subst (SameOrder c.items) (sym (chosen_order c m mode circuit valid slots)) (same_order c.items);
+          (All-from_recursion _ _ (all_numbered (λ (e : ℕ × ItemData). slice_get c.items e.0 ≡ Some e.1) c.items (λ i item is. is) (picked c m mode)));
+      order = subst (SameOrder c.items) (sym (chosen_order c m mode circuit valid slots)) (picked_order c m mode);
     }
 
 -- ---- legal programs
@@ -214,9 +213,9 @@ chosen_legal c m mode circuit valid slots few =
       few = few;
       start = placed_start c m circuit valid slots;
       ops = done.kept;
-      items_fit = fit_by_items (chosen c m mode).ops (subst (AllByRecursion (λ (e : ℕ × ItemData). Fits e.1)) (sym (chosen_does c m mode circuit valid slots)) (all_numbered (λ (e : ℕ × ItemData). Fits e.1) c.items (λ i item. at_number Fits c.items circuit.fit i item) (order c.items)));
+      items_fit = fit_by_items (chosen c m mode).ops (subst (AllByRecursion (λ (e : ℕ × ItemData). Fits e.1)) (sym (chosen_does c m mode circuit valid slots)) (all_numbered (λ (e : ℕ × ItemData). Fits e.1) c.items (λ i item. at_number Fits c.items circuit.fit i item) (picked c m mode)));
       run = done.run;
-      once = λ number. omega (arith, count_numbers number (items_in (chosen c m mode).ops), ap (count_by (λ i. i == number)) (chosen_order c m mode circuit valid slots), (same_order c.items).once number, one_at_most (nat_lt number (length c.items)));
+      once = λ number. omega (arith, count_numbers number (items_in (chosen c m mode).ops), ap (count_by (λ i. i == number)) (chosen_order c m mode circuit valid slots), (picked_order c m mode).once number, one_at_most (nat_lt number (length c.items)));
     }
   where
     one_at_most : (b : Bool) → cond {A = ℕ} b 1 0 ≤ 1
@@ -232,7 +231,7 @@ few_items items numbers count w n short =
     omega arith
 
 pub chosen_short : (c : CircuitData) (m : MachineData) (mode : Mode) (count : ℕ) → IsCircuit c → IsValid m → c.qubits ≤ slots_of m → chosen_long c m mode count ≤ count * worst_of m
-chosen_short c m mode count circuit valid slots = few_items c.items (order c.items) count (worst_of m) (chosen_long c m mode count) (chosen_runs c m mode count circuit valid slots).short
+chosen_short c m mode count circuit valid slots = few_items c.items (picked c m mode) count (worst_of m) (chosen_long c m mode count) (chosen_runs c m mode count circuit valid slots).short
 
 -- too many operations come only where the items might need as many
 pub too_long_only : (c : CircuitData) (m : MachineData) (mode : Mode) (done ops : ℕ) → IsCircuit c → IsValid m → c.qubits ≤ slots_of m → IsTooLong c m mode done ops → 4194304 < length c.items * worst_of m
@@ -267,15 +266,15 @@ take_more (x ∷ xs) (suc count) i is = ap (λ ys. x ∷ ys) (take_more xs count
 
 -- where the state of the first so many items stands
 abbrev pub chosen_state : CircuitData → MachineData → Mode → ℕ → State
-chosen_state c m mode count = after m (opening c.qubits c.bits (placed c m)) (chosen_first c m mode count).ops
+chosen_state c m mode count = after m (opening c.qubits c.bits (chains_at_start c m)) (chosen_first c m mode count).ops
 
-pub next_item : (c : CircuitData) (m : MachineData) (mode : Mode) (count i : ℕ) (item : ItemData) → slice_get (order c.items) count ≡ Some i → slice_get c.items i ≡ Some item
+pub next_item : (c : CircuitData) (m : MachineData) (mode : Mode) (count i : ℕ) (item : ItemData) → slice_get (picked c m mode) count ≡ Some i → slice_get c.items i ≡ Some item
     → (chosen_first c m mode (suc count)).ops ≡ (chosen_first c m mode count).ops ++ item_ops m mode i item item.kind (chosen_state c m mode count)
 unfolding chosen_first
 next_item c m mode count i item number is =
-    ap (λ numbers. items_ops m mode (numbered c.items numbers) (opening c.qubits c.bits (placed c m))) (take_more (order c.items) count i number)
-    ∙ ap (λ items. items_ops m mode items (opening c.qubits c.bits (placed c m))) (numbered_more c.items (take count (order c.items)) i item is)
-    ∙ items_more m mode (numbered c.items (take count (order c.items))) (i, item) (opening c.qubits c.bits (placed c m))
+    ap (λ numbers. items_ops m mode (numbered c.items numbers) (opening c.qubits c.bits (chains_at_start c m))) (take_more (picked c m mode) count i number)
+    ∙ ap (λ items. items_ops m mode items (opening c.qubits c.bits (chains_at_start c m))) (numbered_more c.items (take count (picked c m mode)) i item is)
+    ∙ items_more m mode (numbered c.items (take count (picked c m mode))) (i, item) (opening c.qubits c.bits (chains_at_start c m))
 
 -- what an item may rely on where it is compiled
 pub record Ready (c : CircuitData) (m : MachineData) (s : State) : Type 0 where
@@ -288,8 +287,8 @@ pub record Ready (c : CircuitData) (m : MachineData) (s : State) : Type 0 where
 pub ready : (c : CircuitData) (m : MachineData) (mode : Mode) (count : ℕ) → IsCircuit c → IsValid m → c.qubits ≤ slots_of m → Ready c m (chosen_state c m mode count)
 ready c m mode count circuit valid slots =
     let done = chosen_runs c m mode count circuit valid slots in
-    let s : State = opening c.qubits c.bits (placed c m) in
-    let long : length (chosen_state c m mode count).ions ≡ c.qubits = ops_long m s (chosen_first c m mode count).ops ∙ opening_long c.qubits c.bits (placed c m) in
+    let s : State = opening c.qubits c.bits (chains_at_start c m) in
+    let long : length (chosen_state c m mode count).ions ≡ c.qubits = ops_long m s (chosen_first c m mode count).ops ∙ opening_long c.qubits c.bits (chains_at_start c m) in
     record {
       chains = done.chains;
       rests = done.rests;
@@ -311,8 +310,8 @@ pub item_ready : (c : CircuitData) (m : MachineData) (s : State) (mode : Mode) (
 item_ready c m s mode i item r circuit valid is =
     item_done m s r.chains i item mode valid (subst (λ (n : ℕ). Fitting n s.bits item) (sym r.long) (subst (λ (n : ℕ). Fitting c.qubits n item) (sym r.bits) (item_fitting c i item circuit is))) r.rests r.fewer
 
-pub order_below : (c : CircuitData) (count i : ℕ) → slice_get (order c.items) count ≡ Some i → i < length c.items
-order_below c count i is = all_at (order c.items) (all_times (length c.items) (order c.items) (same_order c.items).once) count is
+pub order_below : (c : CircuitData) (m : MachineData) (mode : Mode) (count i : ℕ) → slice_get (picked c m mode) count ≡ Some i → i < length c.items
+order_below c m mode count i is = all_at (picked c m mode) (all_times (length c.items) (picked c m mode) (picked_order c m mode).once) count is
   where
     all_at : (xs : List ℕ) → AllByRecursion (λ k. k < length c.items) xs → (count : ℕ) → slice_get xs count ≡ Some i → i < length c.items
     all_at [] all count is = cc
@@ -325,14 +324,14 @@ item_at items i less = elim (slice_get_cases items i).1 [
   | inr (past, none) ↦ absurd (omega arith)
 ]
 
-same_first : (c : CircuitData) (m : MachineData) (mode : Mode) (a b : ℕ) → take a (order c.items) ≡ take b (order c.items) → (chosen_first c m mode a).ops ≡ (chosen_first c m mode b).ops
+same_first : (c : CircuitData) (m : MachineData) (mode : Mode) (a b : ℕ) → take a (picked c m mode) ≡ take b (picked c m mode) → (chosen_first c m mode a).ops ≡ (chosen_first c m mode b).ops
 unfolding chosen_first
-same_first c m mode a b same = ap (λ numbers. items_ops m mode (numbered c.items numbers) (opening c.qubits c.bits (placed c m))) same
+same_first c m mode a b same = ap (λ numbers. items_ops m mode (numbered c.items numbers) (opening c.qubits c.bits (chains_at_start c m))) same
 
 pub one_more_short : (c : CircuitData) (m : MachineData) (mode : Mode) (count : ℕ) → IsCircuit c → IsValid m → c.qubits ≤ slots_of m → chosen_long c m mode (count + 1) ≤ chosen_long c m mode count + worst_of m
-one_more_short c m mode count circuit valid slots = elim (slice_get_cases (order c.items) count).1 [
+one_more_short c m mode count circuit valid slots = elim (slice_get_cases (picked c m mode) count).1 [
   | inl (i, within, number, read) ↦
-      let below : i < length c.items = order_below c count i number in
+      let below : i < length c.items = order_below c m mode count i number in
       let item : (x : ItemData) × (slice_get c.items i ≡ Some x) = item_at c.items i below in
       let r : Ready c m (chosen_state c m mode count) = ready c m mode count circuit valid slots in
       let ops : List OpKind = item_ops m mode i item.0 item.0.kind (chosen_state c m mode count) in
@@ -345,5 +344,5 @@ one_more_short c m mode count circuit valid slots = elim (slice_get_cases (order
     next_is : (n : ℕ) → suc n ≡ n + 1
     next_is n = omega arith
 
-    no_more : length (order c.items) ≤ count → chosen_long c m mode (suc count) ≤ chosen_long c m mode count + worst_of m
-    no_more past = omega (arith, ap (λ (xs : List OpKind). length xs) (same_first c m mode (suc count) count (take_all (suc count) (order c.items) (omega arith) ∙ sym (take_all count (order c.items) past))))
+    no_more : length (picked c m mode) ≤ count → chosen_long c m mode (suc count) ≤ chosen_long c m mode count + worst_of m
+    no_more past = omega (arith, ap (λ (xs : List OpKind). length xs) (same_first c m mode (suc count) count (take_all (suc count) (picked c m mode) (omega arith) ∙ sym (take_all count (picked c m mode) past))))

@@ -11,24 +11,23 @@ use Rattle.qccd_machine.specs.Machine.{MachineData, IsValid, slots_of, worst_of}
 use Rattle.op_table.specs.declared.kinds.OpKind.{OpKind}
 use Rattle.op_table.specs.Start.{IsStart}
 use Rattle.op_table.specs.State.{State, opening}
-use Rattle.claim_core.specs.Legal.{IsLegalProgram}
-use Rattle.claim_core.specs.Program.{ProgramData, program_data}
+use Rattle.qccd_program.specs.Legal.{IsLegalProgram}
+use Rattle.qccd_program.specs.Program.{ProgramData, program_data}
 use Rattle.op_plan.specs.Plan.{PlanData, Agrees, IsPlan, begun, state_of, with_ops}
-use Rattle.ion_mapping.specs.Placement.{placed}
+use Rattle.ion_mapping.specs.Placement.{chains_at_start}
 use Rattle.ion_mapping.proofs.Firsts.{once_long}
-use Rattle.gate_scheduler.specs.Order.{order}
-use Rattle.gate_scheduler.proofs.Ordered.{same_order}
 use Rattle.rebalancer.specs.Outside.{NothingOutside}
 use Rattle.rebalancer.proofs.Planned.{after_agrees}
 use Rattle.rebalancer.proofs.Settled.{nothing_outside}
-use Rattle.compiler.specs.Chosen.{chosen, chosen_first, chosen_long, planned, IsTooLong}
+use Rattle.compiler.specs.Chosen.{chosen, chosen_first, chosen_long, picked, planned, IsTooLong}
+use Rattle.compiler.proofs.Picked.{picked_order}
 use Rattle.compiler.specs.Items.{item_ops}
 use Rattle.compiler.proofs.Choosing.{Ready, at_number, chosen_legal, chosen_state, next_item, order_below, placed_start, ready, slots_less}
 
-pub order_long : (c : CircuitData) → length (order c.items) ≡ length c.items
-order_long c = once_long (length c.items) (order c.items) (same_order c.items).once
+pub order_long : (c : CircuitData) (m : MachineData) (mode : Mode) → length (picked c m mode) ≡ length c.items
+order_long c m mode = once_long (length c.items) (picked c m mode) (picked_order c m mode).once
 
-pub planned_none : (c : CircuitData) (m : MachineData) (mode : Mode) → begun m c.qubits c.bits (placed c m) ≡ planned c m mode 0
+pub planned_none : (c : CircuitData) (m : MachineData) (mode : Mode) → begun m c.qubits c.bits (chains_at_start c m) ≡ planned c m mode 0
 unfolding chosen_first
 planned_none c m mode = refl
 
@@ -36,13 +35,13 @@ pub planned_agrees : (c : CircuitData) (m : MachineData) (mode : Mode) (count : 
 planned_agrees c m mode count = record { capacities = refl; junctions = refl; segments = refl }
 
 pub planned_state : (c : CircuitData) (m : MachineData) (mode : Mode) (count : ℕ) → state_of (planned c m mode count) ≡ chosen_state c m mode count
-planned_state c m mode count = sym (after_agrees m (planned c m mode count) (opening c.qubits c.bits (placed c m)) (chosen_first c m mode count).ops (planned_agrees c m mode count))
+planned_state c m mode count = sym (after_agrees m (planned c m mode count) (opening c.qubits c.bits (chains_at_start c m)) (chosen_first c m mode count).ops (planned_agrees c m mode count))
 
-pub planned_next : (c : CircuitData) (m : MachineData) (mode : Mode) (count i : ℕ) (item : ItemData) → slice_get (order c.items) count ≡ Some i → slice_get c.items i ≡ Some item
+pub planned_next : (c : CircuitData) (m : MachineData) (mode : Mode) (count i : ℕ) (item : ItemData) → slice_get (picked c m mode) count ≡ Some i → slice_get c.items i ≡ Some item
     → with_ops (planned c m mode count) (item_ops m mode i item item.kind (state_of (planned c m mode count))) ≡ planned c m mode (count + 1)
 planned_next c m mode count i item number is =
     ap (λ (s : State). with_ops (planned c m mode count) (item_ops m mode i item item.kind s)) (planned_state c m mode count)
-    ∙ ap (λ (ops : List OpKind). with_ops (begun m c.qubits c.bits (placed c m)) ops) (sym (next_item c m mode count i item number is)) ∙ ap (planned c m mode) (let e : suc count ≡ count + 1 = omega arith in e)
+    ∙ ap (λ (ops : List OpKind). with_ops (begun m c.qubits c.bits (chains_at_start c m)) ops) (sym (next_item c m mode count i item number is)) ∙ ap (planned c m mode) (let e : suc count ≡ count + 1 = omega arith in e)
 
 -- what an item needs to be compiled behind the first so many
 pub record Next (c : CircuitData) (m : MachineData) (p : PlanData) (item : ItemData) : Type 0 where
@@ -60,12 +59,6 @@ next_may c m mode count i item p circuit valid slots is plan =
       outside = subst NothingOutside (sym (planned_state c m mode count)) (nothing_outside m (chosen_state c m mode count) r.chains r.rests);
       spare = λ two. slots_less m c.qubits valid slots two;
     })
-
--- the number and the item at a place of the order
-pub number_at : (c : CircuitData) (numbers : List ℕ) (count d : ℕ) → numbers ≡ order c.items → count < length numbers → (slice_get (order c.items) count ≡ Some (get_or numbers count d)) × (get_or numbers count d < length c.items) × (count < length c.items)
-number_at c numbers count d are less =
-    let at : slice_get (order c.items) count ≡ Some (get_or numbers count d) = ap (λ (xs : List ℕ). slice_get xs count) (sym are) ∙ slice_get-get_or numbers count d less in
-    (at, order_below c count (get_or numbers count d) at, omega (arith, less, ap (λ (xs : List ℕ). length xs) are, order_long c))
 
 pub long_of : (c : CircuitData) (m : MachineData) (mode : Mode) (count : ℕ) (p : PlanData) → p ≡ planned c m mode count → length p.ops ≡ chosen_long c m mode count
 long_of c m mode count p is = ap (λ (x : PlanData). length x.ops) is
@@ -92,19 +85,19 @@ never_short q s x e short = elim (cases_lt s q) [
 pub item_found : (items xs : List ItemData) (i : ℕ) (d item : ItemData) → xs ≡ items → i < length items → item ≡ get_or xs i d → slice_get items i ≡ Some item
 item_found items xs i d item same less is = slice_get-get_or items i d less ∙ ap (λ (x : ItemData). Some x) (sym (is ∙ ap (λ (ys : List ItemData). get_or ys i d) same))
 
-pub compiled_next : (c : CircuitData) (m : MachineData) (mode : Mode) (count i : ℕ) (item : ItemData) (p new : PlanData) → slice_get (order c.items) count ≡ Some i → slice_get c.items i ≡ Some item → p ≡ planned c m mode count → new ≡ with_ops p (item_ops m mode i item item.kind (state_of p)) → new ≡ planned c m mode (count + 1)
+pub compiled_next : (c : CircuitData) (m : MachineData) (mode : Mode) (count i : ℕ) (item : ItemData) (p new : PlanData) → slice_get (picked c m mode) count ≡ Some i → slice_get c.items i ≡ Some item → p ≡ planned c m mode count → new ≡ with_ops p (item_ops m mode i item item.kind (state_of p)) → new ≡ planned c m mode (count + 1)
 compiled_next c m mode count i item p new number is plan done = done ∙ ap (λ (x : PlanData). with_ops x (item_ops m mode i item item.kind (state_of x))) plan ∙ planned_next c m mode count i item number is
 
-pub chosen_parts : (c : CircuitData) (m : MachineData) (mode : Mode) (qubits bits : ℕ) (start : List (List Ion)) (ops : List OpKind) → qubits ≡ c.qubits → bits ≡ c.bits → start ≡ placed c m → ops ≡ (chosen c m mode).ops → program_data m qubits bits start ops ≡ chosen c m mode
+pub chosen_parts : (c : CircuitData) (m : MachineData) (mode : Mode) (qubits bits : ℕ) (start : List (List Ion)) (ops : List OpKind) → qubits ≡ c.qubits → bits ≡ c.bits → start ≡ chains_at_start c m → ops ≡ (chosen c m mode).ops → program_data m qubits bits start ops ≡ chosen c m mode
 unfolding chosen_first
 chosen_parts c m mode qubits bits start ops q b s o =
     ap (λ (n : ℕ). program_data m n bits start ops) q ∙ ap (λ (n : ℕ). program_data m c.qubits n start ops) b ∙ ap (λ (cs : List (List Ion)). program_data m c.qubits c.bits cs ops) s
-    ∙ ap (program_data m c.qubits c.bits (placed c m)) o
+    ∙ ap (program_data m c.qubits c.bits (chains_at_start c m)) o
 
-pub start_of : (c : CircuitData) (m : MachineData) (qubits : ℕ) (chains : List (List Ion)) → IsCircuit c → IsValid m → c.qubits ≤ slots_of m → qubits ≡ c.qubits → chains ≡ placed c m → IsStart m qubits chains
+pub start_of : (c : CircuitData) (m : MachineData) (qubits : ℕ) (chains : List (List Ion)) → IsCircuit c → IsValid m → c.qubits ≤ slots_of m → qubits ≡ c.qubits → chains ≡ chains_at_start c m → IsStart m qubits chains
 start_of c m qubits chains circuit valid slots q is = subst (λ (n : ℕ). IsStart m n chains) (sym q) (subst (IsStart m c.qubits) (sym is) (placed_start c m circuit valid slots))
 
-pub begun_of : (c : CircuitData) (m : MachineData) (mode : Mode) (qubits bits : ℕ) (chains : List (List Ion)) (p : PlanData) → qubits ≡ c.qubits → bits ≡ c.bits → chains ≡ placed c m → p ≡ begun m qubits bits chains → p ≡ planned c m mode 0
+pub begun_of : (c : CircuitData) (m : MachineData) (mode : Mode) (qubits bits : ℕ) (chains : List (List Ion)) (p : PlanData) → qubits ≡ c.qubits → bits ≡ c.bits → chains ≡ chains_at_start c m → p ≡ begun m qubits bits chains → p ≡ planned c m mode 0
 begun_of c m mode qubits bits chains p q b is plan =
     plan ∙ ap (λ (n : ℕ). begun m n bits chains) q ∙ ap (λ (n : ℕ). begun m c.qubits n chains) b ∙ ap (begun m c.qubits c.bits) is ∙ planned_none c m mode
 

@@ -9,7 +9,7 @@ use Rattle.qccd_base.specs.Names.{ion}
 use Rattle.qccd_base.specs.declared.names.Ion.{Ion}
 use Rattle.qccd_circuit.specs.Circuit.{CircuitData, IsCircuit}
 use Rattle.qccd_machine.specs.Machine.{MachineData, IsValid}
-use Rattle.ion_mapping.specs.Placement.{by_use, fills, filled, placed, spared}
+use Rattle.ion_mapping.specs.Placement.{by_use, fills, filled, chains_at_start, spared}
 use Rattle.ion_mapping.proofs.Steps.{drop_there, drop_past}
 use Rattle.ion_mapping.proofs.Firsts.{times, times-cons, use_once, use_long}
 
@@ -84,17 +84,17 @@ enough_spared c m slots = elim (cases_Bool (nat_le c.qubits (sum (fills m 2)))) 
 
 -- ---- the placement
 
-pub placed_long : (c : CircuitData) (m : MachineData) → length (placed c m) ≡ length m.capacities
-unfolding placed
+pub placed_long : (c : CircuitData) (m : MachineData) → length (chains_at_start c m) ≡ length m.capacities
+unfolding chains_at_start
 placed_long c m = filled_long (fills m (spared m c.qubits)) (map ion (by_use c)) ∙ fills_long m.capacities (spared m c.qubits)
 
-pub placed_fits : (c : CircuitData) (m : MachineData) (t : ℕ) → IsValid m → length (get_or (placed c m) t []) ≤ get_or m.capacities t 0
-unfolding placed
+pub placed_fits : (c : CircuitData) (m : MachineData) (t : ℕ) → IsValid m → length (get_or (chains_at_start c m) t []) ≤ get_or m.capacities t 0
+unfolding chains_at_start
 placed_fits c m t valid =
     omega (arith, filled_fits (fills m (spared m c.qubits)) (map ion (by_use c)) t, fills_fit m.capacities (spared m c.qubits) t (λ k less. (valid.capacities k 0 less).0))
 
-pub placed_once : (c : CircuitData) (m : MachineData) (i : ℕ) → IsCircuit c → c.qubits ≤ sum m.capacities → ion_times (in_all (placed c m)) i ≡ cond (nat_lt i c.qubits) 1 0
-unfolding placed
+pub placed_once : (c : CircuitData) (m : MachineData) (i : ℕ) → IsCircuit c → c.qubits ≤ sum m.capacities → ion_times (in_all (chains_at_start c m)) i ≡ cond (nat_lt i c.qubits) 1 0
+unfolding chains_at_start
 placed_once c m i circuit slots =
     filled_times (fills m (spared m c.qubits)) (map ion (by_use c)) i (omega (arith, enough_spared c m slots, use_long c circuit, ions_long (by_use c)))
     ∙ ions_of (by_use c) i ∙ use_once c i circuit

@@ -34,5 +34,5 @@ filled [] ions = []
 filled (n ∷ ns) ions = take n ions ∷ filled ns (drop n ions)
 
 -- the chain of each trap at the start. Ion i carries qubit i
-unfoldable pub placed : CircuitData → MachineData → List (List Ion)
-placed c m = filled (fills m (spared m c.qubits)) (map ion (by_use c))
+unfoldable pub chains_at_start : CircuitData → MachineData → List (List Ion)
+chains_at_start c m = filled (fills m (spared m c.qubits)) (map ion (by_use c))

@@ -4,7 +4,7 @@ ghost use Rattle.std.specs.Prelude.{◌≡◌, ◌≢◌, ◌+◌, ◌-◌, ◌<
 ghost use Rattle.qccd_base.specs.Names.{ion};
 ghost use Rattle.qccd_machine.specs.Machine.{slots_of};
 ghost use Rattle.ion_mapping.specs.declared.fault.MapFault.TheVariants as fault;
-ghost use Rattle.ion_mapping.specs.Placement.{by_use, filled, fills, placed, spared, uses};
+ghost use Rattle.ion_mapping.specs.Placement.{by_use, filled, fills, chains_at_start, spared, uses};
 ghost use Rattle.ion_mapping.specs.Taking.{with_numbers};
 
 use crate::fault::MapFault;
@@ -20,7 +20,7 @@ use std::alloc::Global;
 ///
 /// `Shortage` comes exactly where the circuit has more qubits than the machine takes.
 pub fn place(alloc: Global, circuit: &Circuit, machine: &Machine) -> Result<Vec<IonList>, MapFault>
-    ensures placed { IfOk result (λ chains. chains.items ≡ placed circuit.now machine.now) }
+    ensures placed { IfOk result (λ chains. chains.items ≡ chains_at_start circuit.now machine.now) }
     ensures short { slots_of machine.now < circuit.now.qubits → result ≡ Err (fault.Shortage circuit.now.qubits (slots_of machine.now)) }
     ensures refused { IfErr result (λ f. f ≢ fault.NoMemory → slots_of machine.now < circuit.now.qubits) }
 {

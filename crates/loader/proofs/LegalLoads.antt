@@ -11,7 +11,7 @@ use Rattle.qccd_machine.specs.Machine.{MachineData}
 use Rattle.op_table.specs.Op.{IsOp, KeepsItemRule}
 use Rattle.op_table.specs.Start.{IsStart}
 use Rattle.op_table.specs.State.{opening}
-use Rattle.claim_core.specs.Legal.{IsLegalProgram}
+use Rattle.qccd_program.specs.Legal.{IsLegalProgram}
 use Rattle.transport_asm.specs.Texts.{RawData}
 use Rattle.loader.specs.declared.faults.LoadFault.{LoadFault}
 use Rattle.loader.specs.declared.faults.LoadFault.TheVariants.{TrapCount, BadStart, StartOverfull}

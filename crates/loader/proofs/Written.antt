@@ -14,11 +14,11 @@ use Rattle.op_table.specs.Op.{IsOp, KeepsItemRule}
 use Rattle.op_table.specs.Run.{item_in, items_in}
 use Rattle.op_table.specs.Start.{IsStart}
 use Rattle.op_table.proofs.Openings.{ion_below}
-use Rattle.claim_core.specs.Implements.{Implements}
-use Rattle.claim_core.specs.Legal.{IsLegalProgram}
-use Rattle.claim_core.specs.Program.{ProgramData}
+use Rattle.qccd_program.specs.Implements.{Implements}
+use Rattle.qccd_program.specs.Legal.{IsLegalProgram}
+use Rattle.qccd_program.specs.Program.{ProgramData}
 use Rattle.transport_asm.specs.ProgramText.{program_text, spelled}
-use Rattle.transport_asm.specs.Slots.{greatest}
+use Rattle.op_text.specs.Slots.{greatest}
 use Rattle.transport_asm.specs.Texts.{RawData}
 use Rattle.transport_asm.specs.Writable.{KeepsLimits, IsWritable, IsWritableChain, IsWritableRaw}
 use Rattle.transport_asm.proofs.Answered.{one_raw}

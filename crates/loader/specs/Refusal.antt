@@ -11,7 +11,7 @@ use Rattle.op_table.specs.declared.kinds.OpKind.{OpKind}
 use Rattle.op_table.specs.Run.{item_in, items_in}
 use Rattle.op_table.specs.State.{State, opening}
 use Rattle.op_table.specs.Step.{why, effect}
-use Rattle.claim_core.specs.Program.{ProgramData}
+use Rattle.qccd_program.specs.Program.{ProgramData}
 use Rattle.transport_asm.specs.Texts.{RawData}
 use Rattle.loader.specs.declared.faults.LoadFault.{LoadFault}
 use Rattle.loader.specs.declared.faults.LoadFault.TheVariants.{TrapCount, BadStart, StartOverfull, Illegal, ItemTwice, NoMemory}

@@ -3,8 +3,8 @@ use Rattle.std.specs.Prelude.{◌≡◌, ℕ, ◌≤◌, List, None, IfSome}
 use Rattle.qccd_machine.specs.Machine.{MachineData}
 use Rattle.op_table.specs.Run.{item_in}
 use Rattle.op_table.specs.declared.kinds.OpKind.{OpKind}
-use Rattle.claim_core.specs.Program.{ProgramData}
-use Rattle.transport_asm.specs.Slots.{greatest}
+use Rattle.qccd_program.specs.Program.{ProgramData}
+use Rattle.op_text.specs.Slots.{greatest}
 use Rattle.transport_asm.specs.Texts.{RawData, Spells}
 use Rattle.loader.specs.Refusal.{on_machine, load_refusal}
 

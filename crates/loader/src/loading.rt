@@ -1,15 +1,15 @@
 //! A raw program, loaded on a machine.
 
 ghost use Rattle.std.specs.Prelude.{◌≡◌, ◌≤◌, ◌<◌, ◌^◌, length, IfOk, OnOk};
-ghost use Rattle.claim_core.specs.Legal.{IsLegalProgram};
+ghost use Rattle.qccd_program.specs.Legal.{IsLegalProgram};
 ghost use Rattle.transport_asm.specs.LineCursor.{raw_data};
 ghost use Rattle.loader.specs.Refusal.{on_machine, load_refusal, Answers};
 
 use crate::faults::LoadFault;
 use crate::operations::operations;
 use crate::start::start;
-use claim_core::Program;
 use qccd_machine::Machine;
+use qccd_program::Program;
 use std::alloc::Global;
 use transport_asm::RawProgram;
 

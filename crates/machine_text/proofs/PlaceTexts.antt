@@ -12,7 +12,7 @@ use Rattle.qccd_base.specs.declared.names.TrapId.{TrapId}
 use Rattle.qccd_base.specs.declared.names.End.TheVariants.{Left, Right}
 use Rattle.qccd_machine.specs.declared.place.Place.{Place}
 use Rattle.qccd_machine.specs.declared.place.Place.TheVariants.{TrapEnd, Junction}
-use Rattle.machine_text.specs.Place.{place_text, places_at, places, place_of}
+use Rattle.machine_text.specs.Place.{place_text, places_at, places, place_named}
 
 -- the number of the place's trap or junction
 abbrev pub place_number : Place → ℕ
@@ -100,17 +100,17 @@ find_none test a (suc n) each =
 
 -- ---- the place of a text
 
-pub place_of-text : (text : List ℕ) (p : Place) → place_number p < 256 → text ≡ place_text p → Some p ≡ place_of text
+pub place_named-text : (text : List ℕ) (p : Place) → place_number p < 256 → text ≡ place_text p → Some p ≡ place_named text
 unfolding places
-place_of-text text p small is =
+place_named-text text p small is =
     sym (find_at (λ q. bytes_eq text (place_text q)) 0 256 p (omega arith) (omega arith) ((bytes_eq-Decides text (place_text p)).1 is) only)
   where
     only : (q : Place) → place_number q < 0 + 256 → bytes_eq text (place_text q) ≡ true → q ≡ p
     only q few test = place_text-injective q p (omega arith) small (sym ((bytes_eq-Decides text (place_text q)).0 test) ∙ is)
 
-pub place_of-none : (text : List ℕ) → ((p : Place) → place_number p < 256 → text ≢ place_text p) → None ≡ place_of text
+pub place_named-none : (text : List ℕ) → ((p : Place) → place_number p < 256 → text ≢ place_text p) → None ≡ place_named text
 unfolding places
-place_of-none text apart = sym (find_none (λ q. bytes_eq text (place_text q)) 0 256 other)
+place_named-none text apart = sym (find_none (λ q. bytes_eq text (place_text q)) 0 256 other)
   where
     not_same : (q : Place) (b : Bool) → bytes_eq text (place_text q) ≡ b → (text ≢ place_text q) → b ≡ false
     not_same q true is apart = absurd (apart ((bytes_eq-Decides text (place_text q)).0 is))
@@ -128,11 +128,11 @@ between front text back rest digits k (Ok n) first second third is =
 between front text back rest digits k (Err e) first second third is = tt
 
 -- a text that is that of no place
-pub place_of-other :
+pub place_named-other :
     (text : List ℕ) → ((n : ℕ) → n < 256 → text ≡ codes "T" ++ (decimal n ++ codes ".left") → ⊥)
     → ((n : ℕ) → n < 256 → text ≡ codes "T" ++ (decimal n ++ codes ".right") → ⊥)
-    → ((n : ℕ) → n < 256 → text ≡ codes "J" ++ (decimal n ++ []) → ⊥) → None ≡ place_of text
-place_of-other text left right junction = place_of-none text apart
+    → ((n : ℕ) → n < 256 → text ≡ codes "J" ++ (decimal n ++ []) → ⊥) → None ≡ place_named text
+place_named-other text left right junction = place_named-none text apart
   where
     apart : (p : Place) → place_number p < 256 → text ≢ place_text p
     apart (TrapEnd t Left) small is = left t.0 small is

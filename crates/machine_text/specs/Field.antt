@@ -4,7 +4,7 @@ use Rattle.std.specs.List.{list_any}
 use Rattle.std.specs.Str.{bytes_eq}
 use Rattle.toml.specs.Data.{Data, string, integer, array, table, Items, no_items, item, Members, no_members, member, get_member}
 use Rattle.qccd_machine.specs.declared.place.Place.{Place}
-use Rattle.machine_text.specs.Place.{place_of}
+use Rattle.machine_text.specs.Place.{place_named}
 
 -- no value, a value of another form than is wanted, or the value
 pub data Found (A : Type 0) : Type 0 where
@@ -61,7 +61,7 @@ time_number value =
 
 -- the text of a place
 abbrev pub place_in : Data → Option Place
-place_in (string text) = place_of text
+place_in (string text) = place_named text
 place_in _ = None
 
 -- an array of tables

@@ -22,5 +22,5 @@ unfoldable pub places : List Place
 places = flat_map places_at (range_with_len 0 256)
 
 -- the place that has this text
-abbrev pub place_of : List ℕ → Option Place
-place_of text = find (λ place. bytes_eq text (place_text place)) places
+abbrev pub place_named : List ℕ → Option Place
+place_named text = find (λ place. bytes_eq text (place_text place)) places

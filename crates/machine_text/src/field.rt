@@ -12,7 +12,7 @@ ghost use Rattle.std.specs.List.{list_any};
 ghost use Rattle.std.specs.Str.{bytes_eq};
 
 use crate::fault::{Spot, TextFault};
-use crate::place::place_of;
+use crate::place::place_named;
 use qccd_machine::Place;
 use std::alloc::{AllocError, Global};
 use toml::{Table, Value};
@@ -81,7 +81,7 @@ pub(crate) fn time_number(value: &Value) -> Option<u32>
 pub(crate) fn place(value: &Value) -> Option<Place>
     ensures { result ≡ place_in (view value.now) }
 {
-    place_of(value.as_str()?.as_bytes())
+    place_named(value.as_str()?.as_bytes())
 }
 
 /// The tables of a value that is an array of tables.

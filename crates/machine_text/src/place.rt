@@ -1,15 +1,15 @@
 //! The texts of the places of a segment's ends.
 
 ghost use Rattle.std.specs.Prelude.{◌≡◌, ℕ, ◌<◌, ◌++◌, Some, IfSome, decimal};
-ghost use Rattle.machine_text.specs.Place.{place_of};
+ghost use Rattle.machine_text.specs.Place.{place_named};
 
 use qccd_base::{End, JuncId, TrapId, read_number};
 use qccd_machine::Place;
 
 /// The place that the text names: the left or the right end of a trap, as `T0.left`, or a junction,
 /// as `J3`, with a number up to 255 that has no sign and no leading zero.
-pub(crate) fn place_of(text: &[u8]) -> Option<Place>
-    ensures { result ≡ place_of text.now }
+pub(crate) fn place_named(text: &[u8]) -> Option<Place>
+    ensures { result ≡ place_named text.now }
 {
     if let Some(trap) = number_between(b"T", text, b".left") {
         return Some(Place::TrapEnd(TrapId(trap), End::Left));

@@ -13,8 +13,8 @@ use Rattle.op_table.specs.Op.{IsOp, KeepsItemRule}
 use Rattle.op_table.specs.Run.{IsRun, items_in}
 use Rattle.op_table.specs.Start.{IsStart}
 use Rattle.op_table.proofs.Counts.{count_by-cons}
-use Rattle.claim_core.specs.Program.{opening_of}
-use Rattle.claim_core.specs.Legal.{IsLegalProgram}
+use Rattle.qccd_program.specs.Program.{opening_of}
+use Rattle.qccd_program.specs.Legal.{IsLegalProgram}
 use Rattle.meaning_check.specs.Verdict.{has_number, HasEach, IsVerdict}
 use Rattle.meaning_check.specs.declared.verdict.Verdict.TheVariants.{Differs, Order}
 use Rattle.meaning_check.specs.Example.{at, four_gates, in_one_trap, in_order, other_qubit, out_of_order, two_missing, two_others}

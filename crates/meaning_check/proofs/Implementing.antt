@@ -14,9 +14,9 @@ use Rattle.qccd_machine.specs.Machine.{MachineData}
 use Rattle.op_table.specs.declared.kinds.OpKind.{OpKind}
 use Rattle.op_table.specs.Run.{item_in, items_in}
 use Rattle.op_table.proofs.Counts.{count_by-map}
-use Rattle.claim_core.specs.Implements.{Implements}
-use Rattle.claim_core.specs.Legal.{IsLegalProgram}
-use Rattle.claim_core.specs.Program.{ProgramData}
+use Rattle.qccd_program.specs.Implements.{Implements}
+use Rattle.qccd_program.specs.Legal.{IsLegalProgram}
+use Rattle.qccd_program.specs.Program.{ProgramData}
 use Rattle.meaning_check.specs.Verdict.{IsOfCircuit, has_number, HasEach, NoneOvertakes, HasItems}
 
 -- ---- the items, operation by operation and together

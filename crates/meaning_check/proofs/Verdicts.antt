@@ -8,7 +8,7 @@ use Rattle.qccd_circuit.specs.Circuit.{CircuitData, IsCircuit}
 use Rattle.qccd_circuit.specs.Item.{ItemData}
 use Rattle.op_table.specs.declared.kinds.OpKind.{OpKind}
 use Rattle.op_table.specs.Run.{item_in, items_in}
-use Rattle.claim_core.specs.Program.{ProgramData}
+use Rattle.qccd_program.specs.Program.{ProgramData}
 use Rattle.meaning_check.specs.Verdict.{SameSizes, IsOfCircuit, HasEach, NoneOvertakes, HasItems, IsVerdict}
 use Rattle.meaning_check.specs.declared.verdict.Verdict.{Verdict}
 use Rattle.meaning_check.specs.declared.verdict.Verdict.TheVariants.{Sizes, Differs, Missing, Order, Same}

@@ -7,7 +7,7 @@ use Rattle.qccd_circuit.specs.Example.{h_on, cx_on}
 use Rattle.qccd_machine.specs.Preset.{single}
 use Rattle.op_table.specs.declared.kinds.OpKind.{OpKind}
 use Rattle.op_table.specs.declared.kinds.OpKind.TheVariants.{Item}
-use Rattle.claim_core.specs.Program.{ProgramData}
+use Rattle.qccd_program.specs.Program.{ProgramData}
 
 -- a gate on each qubit, one on both, and one more on the first
 abbrev pub four_gates : CircuitData

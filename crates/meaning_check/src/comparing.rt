@@ -6,9 +6,9 @@ ghost use Rattle.meaning_check.specs.Verdict.{IsVerdict};
 use crate::items::{first_to_differ, least_missing};
 use crate::overtaking::first_to_overtake;
 use crate::verdict::Verdict;
-use claim_core::Program;
 use qccd_base::NoMemory;
 use qccd_circuit::Circuit;
+use qccd_program::Program;
 use std::alloc::Global;
 
 /// How the program stands to the circuit; of several answers that hold the first is given, in the order of

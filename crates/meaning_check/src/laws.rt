@@ -3,9 +3,9 @@
 ghost use Rattle.std.specs.Prelude.{◌≡◌, ◌↔◌};
 ghost use Rattle.qccd_circuit.specs.Circuit.{CircuitData, IsCircuit};
 ghost use Rattle.qccd_machine.specs.Machine.{MachineData};
-ghost use Rattle.claim_core.specs.Implements.{Implements};
-ghost use Rattle.claim_core.specs.Legal.{IsLegalProgram};
-ghost use Rattle.claim_core.specs.Program.{ProgramData};
+ghost use Rattle.qccd_program.specs.Implements.{Implements};
+ghost use Rattle.qccd_program.specs.Legal.{IsLegalProgram};
+ghost use Rattle.qccd_program.specs.Program.{ProgramData};
 ghost use Rattle.meaning_check.specs.Verdict.{IsVerdict};
 ghost use Rattle.meaning_check.specs.declared.verdict.Verdict.{Verdict};
 ghost use Rattle.meaning_check.specs.declared.verdict.Verdict.TheVariants.{Same};

@@ -18,7 +18,7 @@ use Rattle.op_table.specs.Step.{has_trap, has_segment, has_junction}
 use Rattle.op_table.specs.Touch.{touches, named}
 use Rattle.op_table.proofs.Shared.{all_met}
 use Rattle.op_cells.specs.Numbering.{index_of, IsThere}
-use Rattle.op_cells.specs.Placed.{bits_below, placed}
+use Rattle.op_cells.specs.Placed.{bits_below, names_parts_there}
 use Rattle.op_cells.specs.Places.{AreInTurn}
 use Rattle.op_cells.proofs.Rising.{Rising, rising-ascending}
 
@@ -50,8 +50,8 @@ trap_seg m n t g h = let both = and_parts (has_trap m t) (has_segment m g) h in 
 seg_junc : (m : MachineData) (n g j : ℕ) → (has_segment m g && has_junction m j) ≡ true → AllByRecursion (IsThere m n) (res.Seg (segment g) ∷ res.Junc (junction j) ∷ [])
 seg_junc m n g j h = let both = and_parts (has_segment m g) (has_junction m j) h in (ltb-true g (length m.segments) both.0, (ltb-true j m.junctions both.1, tt))
 
--- what a placed operation names is there
-named_there : (m : MachineData) (n : ℕ) (op : OpKind) → placed m n op ≡ true → AllByRecursion (IsThere m n) (named op)
+-- what such an operation names is there
+named_there : (m : MachineData) (n : ℕ) (op : OpKind) → names_parts_there m n op ≡ true → AllByRecursion (IsThere m n) (named op)
 named_there m n (Split t e g) is = trap_seg m n t.0 g.0 is
 named_there m n (Move g) is = (ltb-true g.0 (length m.segments) is, tt)
 named_there m n (Enter g j) is = seg_junc m n g.0 j.0 is
@@ -65,11 +65,11 @@ named_there m n (Item number t item at) is =
 named_there m n (Fence number item traps) is =
     let both = and_parts (list_all (λ t. has_trap m t.0) traps) (bits_below n item) is in traps_there m n traps both.0
 
-pub placed-there : (m : MachineData) (n : ℕ) (op : OpKind) → placed m n op ≡ true → AllByRecursion (IsThere m n) (touches op)
+pub placed-there : (m : MachineData) (n : ℕ) (op : OpKind) → names_parts_there m n op ≡ true → AllByRecursion (IsThere m n) (touches op)
 placed-there m n op is = all_ascending (IsThere m n) (named op) (named_there m n op is)
 
--- a legal operation is placed
-legal_placed : (m : MachineData) (n : ℕ) (op : OpKind) (cs : List Content) → why_on m n op cs ≡ None → placed m n op ≡ true
+-- a legal operation names parts that are there
+legal_placed : (m : MachineData) (n : ℕ) (op : OpKind) (cs : List Content) → why_on m n op cs ≡ None → names_parts_there m n op ≡ true
 legal_placed m n (Split t e g) cs legal = (all_met (needs_on m n (Split t e g) cs) legal).0
 legal_placed m n (Move g) cs legal = (all_met (needs_on m n (Move g) cs) legal).0
 legal_placed m n (Enter g j) cs legal = (all_met (needs_on m n (Enter g j) cs) legal).0

@@ -27,7 +27,7 @@ use Rattle.op_table.proofs.Every.{why-on}
 use Rattle.op_table.proofs.Needs.{touches-item}
 use Rattle.op_cells.specs.declared.cells.Cell.{Cell}
 use Rattle.op_cells.specs.Numbering.{IsThere}
-use Rattle.op_cells.specs.Placed.{bits_start, needs_there, placed}
+use Rattle.op_cells.specs.Placed.{bits_start, needs_there, names_parts_there}
 use Rattle.op_cells.specs.Places.{content_at, content_or}
 use Rattle.op_cells.specs.Shows.{Shows}
 use Rattle.op_cells.proofs.InTurn.{placed-there}
@@ -70,21 +70,21 @@ fence-there m op cells number item traps is =
     (sym (all_map (λ x. list_any (chain_holds x) item.qubits) (content_at m cells) (touches op)))
     ∙ ap (λ (o : OpKind). first_failing (needs_there m o (map (content_at m cells) (touches op)))) (sym is)
 
--- what is not placed is told first, whatever the contents
+-- a part that is not there is told first, whatever the contents
 fails : (b : Bool) (rest : List (Why × Bool)) → b ≡ false → first_failing ((NoPlace, b) ∷ rest) ≡ Some NoPlace
 fails true rest h = cc
 fails false rest h = refl
 
-unplaced : (m : MachineData) (n : ℕ) (op : OpKind) (cs : List Content) → placed m n op ≡ false → why_on m n op cs ≡ Some NoPlace
-unplaced m n (Split t e g) cs h = fails (placed m n (Split t e g)) (drop 1 (needs_on m n (Split t e g) cs)) h
-unplaced m n (Move g) cs h = fails (placed m n (Move g)) (drop 1 (needs_on m n (Move g) cs)) h
-unplaced m n (Enter g j) cs h = fails (placed m n (Enter g j)) (drop 1 (needs_on m n (Enter g j) cs)) h
-unplaced m n (Leave j g) cs h = fails (placed m n (Leave j g)) (drop 1 (needs_on m n (Leave j g) cs)) h
-unplaced m n (Merge g t e) cs h = fails (placed m n (Merge g t e)) (drop 1 (needs_on m n (Merge g t e) cs)) h
-unplaced m n (Rot t p) cs h = fails (placed m n (Rot t p)) (drop 1 (needs_on m n (Rot t p) cs)) h
-unplaced m n (GSwap t low high) cs h = fails (placed m n (GSwap t low high)) (drop 1 (needs_on m n (GSwap t low high) cs)) h
-unplaced m n (Item number t item at) cs h = fails (placed m n (Item number t item at)) (drop 1 (needs_on m n (Item number t item at) cs)) h
-unplaced m n (Fence number item traps) cs h = fails (placed m n (Fence number item traps)) (drop 1 (needs_on m n (Fence number item traps) cs)) h
+unplaced : (m : MachineData) (n : ℕ) (op : OpKind) (cs : List Content) → names_parts_there m n op ≡ false → why_on m n op cs ≡ Some NoPlace
+unplaced m n (Split t e g) cs h = fails (names_parts_there m n (Split t e g)) (drop 1 (needs_on m n (Split t e g) cs)) h
+unplaced m n (Move g) cs h = fails (names_parts_there m n (Move g)) (drop 1 (needs_on m n (Move g) cs)) h
+unplaced m n (Enter g j) cs h = fails (names_parts_there m n (Enter g j)) (drop 1 (needs_on m n (Enter g j) cs)) h
+unplaced m n (Leave j g) cs h = fails (names_parts_there m n (Leave j g)) (drop 1 (needs_on m n (Leave j g) cs)) h
+unplaced m n (Merge g t e) cs h = fails (names_parts_there m n (Merge g t e)) (drop 1 (needs_on m n (Merge g t e) cs)) h
+unplaced m n (Rot t p) cs h = fails (names_parts_there m n (Rot t p)) (drop 1 (needs_on m n (Rot t p) cs)) h
+unplaced m n (GSwap t low high) cs h = fails (names_parts_there m n (GSwap t low high)) (drop 1 (needs_on m n (GSwap t low high) cs)) h
+unplaced m n (Item number t item at) cs h = fails (names_parts_there m n (Item number t item at)) (drop 1 (needs_on m n (Item number t item at) cs)) h
+unplaced m n (Fence number item traps) cs h = fails (names_parts_there m n (Fence number item traps)) (drop 1 (needs_on m n (Fence number item traps) cs)) h
 
 -- the cells of resources that are there hold what the resources hold
 pub shown : (m : MachineData) (s : State) (cells : List Cell) (rs : List Res) → Shows m s cells → AllByRecursion (IsThere m s.bits) rs → map (content_at m cells) rs ≡ map (content s) rs
@@ -94,15 +94,15 @@ shown m s cells (r ∷ rs) shows there =
     ap₂ (λ (x : Content) (xs : List Content). x ∷ xs) (ap content_or here.1 ∙ here.2) (shown m s cells rs shows there.1)
 
 why_placed : (m : MachineData) (s : State) (op : OpKind) (cells : List Cell) → IsSafe m s → Shows m s cells → IsOp op → why_on m s.bits op (map (content_at m cells) (touches op)) ≡ why m s op
-why_placed m s op cells safe shows kept = elim (cases_Bool (placed m s.bits op)) [
+why_placed m s op cells safe shows kept = elim (cases_Bool (names_parts_there m s.bits op)) [
   | inl h ↦ choose_true h
   | inr h ↦ choose_false h
 ]
   where
-    choose_false : placed m s.bits op ≡ false → why_on m s.bits op (map (content_at m cells) (touches op)) ≡ why m s op
+    choose_false : names_parts_there m s.bits op ≡ false → why_on m s.bits op (map (content_at m cells) (touches op)) ≡ why m s op
     choose_false h = unplaced m s.bits op (map (content_at m cells) (touches op)) h ∙ sym (unplaced m s.bits op (map (content s) (touches op)) h) ∙ why-on m s op safe kept
 
-    choose_true : placed m s.bits op ≡ true → why_on m s.bits op (map (content_at m cells) (touches op)) ≡ why m s op
+    choose_true : names_parts_there m s.bits op ≡ true → why_on m s.bits op (map (content_at m cells) (touches op)) ≡ why m s op
     choose_true h = ap (why_on m s.bits op) (shown m s cells (touches op) shows (placed-there m s.bits op h)) ∙ why-on m s op safe kept
 
 pub why-shown : (m : MachineData) (op : OpKind) (cells slice : List Cell) (answer : Option Why) → IsOp op → slice ≡ cells → answer ≡ why_on m (length slice - bits_start m) op (map (content_at m slice) (touches op))

@@ -11,7 +11,7 @@ use Rattle.op_table.specs.Start.{IsStart}
 use Rattle.op_table.specs.declared.contents.Entry.{Entry}
 use Rattle.op_table.specs.declared.contents.Content.TheVariants as holds
 use Rattle.op_table.specs.Contents.{seek, entry_of, entry_at, chain, rider_of, carry_of, content}
-use Rattle.op_table.specs.Act.{trap_of}
+use Rattle.op_table.specs.Act.{trap_content}
 use Rattle.op_table.proofs.Counts.{find-map, same_gets}
 use Rattle.op_table.proofs.Chains.{chain-get}
 use Rattle.op_table.proofs.Openings.{is_ion, place_in, in_trap_only, opening-safe, ion_below}
@@ -57,9 +57,9 @@ cold_get zero t = refl
 cold_get (suc n) zero = refl
 cold_get (suc n) (suc t) = cold_get n t
 
-pub trap-start : (m : MachineData) (n bits : ℕ) (chains : List (List Ion)) (t : _) → IsStart m n chains → content (opening n bits chains) (res.Trap t) ≡ trap_of (map start_entry (get_or chains t.0 [])) 0
+pub trap-start : (m : MachineData) (n bits : ℕ) (chains : List (List Ion)) (t : _) → IsStart m n chains → content (opening n bits chains) (res.Trap t) ≡ trap_content (map start_entry (get_or chains t.0 [])) 0
 trap-start m n bits chains t start =
-    ap₂ (λ (es : List Entry) (h : ℕ). trap_of es h)
+    ap₂ (λ (es : List Entry) (h : ℕ). trap_content es h)
     (same_gets (chain (opening n bits chains) t.0) (map start_entry (get_or chains t.0 [])) (λ k.
     chain-get m (opening n bits chains) t.0 k (opening-safe m n bits chains start) ∙ entry_start m n bits chains start t.0 k (slice_get (get_or chains t.0 []) k) refl ∙ sym (mapped_get start_entry (get_or chains t.0 []) k)))
     (cold_get (length chains) t.0)

@@ -15,20 +15,20 @@ abbrev pub bits_below : ℕ → ItemData → Bool
 bits_below bits item = list_all (λ b. nat_lt b.0 bits) (bits_of item)
 
 -- what the operation names is there
-abbrev pub placed : MachineData → ℕ → OpKind → Bool
-placed m bits (Split t e g) = has_trap m t.0 && has_segment m g.0
-placed m bits (Move g) = has_segment m g.0
-placed m bits (Enter g j) = has_segment m g.0 && has_junction m j.0
-placed m bits (Leave j g) = has_segment m g.0 && has_junction m j.0
-placed m bits (Merge g t e) = has_trap m t.0 && has_segment m g.0
-placed m bits (Rot t p) = has_trap m t.0
-placed m bits (GSwap t low high) = has_trap m t.0
-placed m bits (Item number t item at) = has_trap m t.0 && bits_below bits item
-placed m bits (Fence number item traps) = list_all (λ t. has_trap m t.0) traps && bits_below bits item
+abbrev pub names_parts_there : MachineData → ℕ → OpKind → Bool
+names_parts_there m bits (Split t e g) = has_trap m t.0 && has_segment m g.0
+names_parts_there m bits (Move g) = has_segment m g.0
+names_parts_there m bits (Enter g j) = has_segment m g.0 && has_junction m j.0
+names_parts_there m bits (Leave j g) = has_segment m g.0 && has_junction m j.0
+names_parts_there m bits (Merge g t e) = has_trap m t.0 && has_segment m g.0
+names_parts_there m bits (Rot t p) = has_trap m t.0
+names_parts_there m bits (GSwap t low high) = has_trap m t.0
+names_parts_there m bits (Item number t item at) = has_trap m t.0 && bits_below bits item
+names_parts_there m bits (Fence number item traps) = list_all (λ t. has_trap m t.0) traps && bits_below bits item
 
 -- the same, for some number of bits
 abbrev pub IsPlaced : MachineData → OpKind → Type 0
-IsPlaced m op = (bits : ℕ) × (placed m bits op ≡ true)
+IsPlaced m op = (bits : ℕ) × (names_parts_there m bits op ≡ true)
 
 -- what it needs besides, of the contents that it touches; no bits are asked for
 abbrev pub needs_there : MachineData → OpKind → List Content → List (Why × Bool)

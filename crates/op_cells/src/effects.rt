@@ -3,7 +3,7 @@
 ghost use Rattle.std.specs.Prelude.{◌≡◌, ◌<◌, ◌+◌, ◌^◌, ◌∷◌, [], true, length, is_some, None, Some, option_map, slice_get, swap};
 ghost use Rattle.time_heat.specs.Heat.{merged_heat, rotated_heat};
 ghost use Rattle.op_table.specs.declared.contents.Content.TheVariants as holds;
-ghost use Rattle.op_table.specs.Act.{chain_in, heat_in, rider_in, carry_in, rider_heat_in, trap_of, split_cells, end_index, without_end, with_end, riding, moved_rider, entered_rider, left_carry, qubits_swapped};
+ghost use Rattle.op_table.specs.Act.{chain_in, heat_in, rider_in, carry_in, rider_heat_in, trap_content, split_cells, end_index, without_end, with_end, riding, moved_rider, entered_rider, left_carry, qubits_swapped};
 ghost use Rattle.op_table.specs.Contents.{heat_held};
 
 use arrayvec::ArrayVec;
@@ -96,7 +96,7 @@ pub(crate) fn merge(trap: &mut Content, seg: &mut Content, end: End)
     requires room { length (chain_in trap.old) < 32 }
     requires trap_heat { heat_held trap.old < 2 ^ 62 }
     requires seg_heat { heat_held seg.old < 2 ^ 62 }
-    ensures { trap.new ∷ seg.new ∷ [] ≡ trap_of (with_end end (rider_in seg.old) (chain_in trap.old)) (merged_heat (heat_in trap.old) (rider_heat_in (rider_in seg.old))) ∷ holds.Seg None ∷ [] }
+    ensures { trap.new ∷ seg.new ∷ [] ≡ trap_content (with_end end (rider_in seg.old) (chain_in trap.old)) (merged_heat (heat_in trap.old) (rider_heat_in (rider_in seg.old))) ∷ holds.Seg None ∷ [] }
 {
     match seg {
         Content::Seg { rider } => {
@@ -116,7 +116,7 @@ fn join(trap: &mut Content, rider: Rider, end: End)
     requires room { length (chain_in trap.old) < 32 }
     requires trap_heat { heat_held trap.old < 2 ^ 62 }
     requires ion_heat { rider.heat < 2 ^ 62 }
-    ensures { trap.new ≡ trap_of (with_end end (Some rider) (chain_in trap.old)) (merged_heat (heat_in trap.old) rider.heat) }
+    ensures { trap.new ≡ trap_content (with_end end (Some rider) (chain_in trap.old)) (merged_heat (heat_in trap.old) rider.heat) }
 {
     match trap {
         Content::Trap { chain, heat } => {
@@ -132,7 +132,7 @@ fn join(trap: &mut Content, rider: Rider, end: End)
 // A trap of this ion alone.
 fn alone(rider: Rider, end: End) -> Content
     requires { rider.heat < 2 ^ 62 }
-    ensures { result ≡ trap_of (with_end end (Some rider) []) (merged_heat 0 rider.heat) }
+    ensures { result ≡ trap_content (with_end end (Some rider) []) (merged_heat 0 rider.heat) }
 {
     let mut chain = ArrayVec::new();
     put_end(&mut chain, rider, end);
@@ -217,7 +217,7 @@ pub(crate) fn leave(seg: &mut Content, junc: &mut Content, onto: SegEnd)
 pub(crate) fn rotate(trap: &mut Content, at: u8)
     requires within { at + 1 < length (chain_in trap.old) }
     requires heat { heat_held trap.old < 2 ^ 62 }
-    ensures { trap.new ≡ trap_of (swap (chain_in trap.old) at (at + 1)) (rotated_heat (heat_in trap.old)) }
+    ensures { trap.new ≡ trap_content (swap (chain_in trap.old) at (at + 1)) (rotated_heat (heat_in trap.old)) }
 {
     match trap {
         Content::Trap { chain, heat } => {
@@ -235,7 +235,7 @@ pub(crate) fn rotate(trap: &mut Content, at: u8)
 pub(crate) fn exchange(trap: &mut Content, low: u8, high: u8)
     requires order { low < high }
     requires within { high < length (chain_in trap.old) }
-    ensures { trap.new ≡ trap_of (qubits_swapped low high (chain_in trap.old)) (heat_in trap.old) }
+    ensures { trap.new ≡ trap_content (qubits_swapped low high (chain_in trap.old)) (heat_in trap.old) }
 {
     match trap {
         Content::Trap { chain, heat: _ } => {

@@ -11,7 +11,7 @@ ghost use Rattle.op_table.specs.State.{State, IsSafe};
 ghost use Rattle.op_table.specs.Step.{is_qubit, why as why_in};
 ghost use Rattle.op_table.specs.Touch.{touches};
 ghost use Rattle.op_table.specs.declared.kinds.Why.TheVariants as why;
-ghost use Rattle.op_cells.specs.Placed.{IsPlaced, bits_start, needs_there, placed};
+ghost use Rattle.op_cells.specs.Placed.{IsPlaced, bits_start, needs_there, names_parts_there};
 ghost use Rattle.op_cells.specs.Places.{content_at};
 ghost use Rattle.op_cells.specs.Settled.{IsLegalOn};
 ghost use Rattle.op_cells.specs.Shows.{AreOf, Shows};

@@ -4,7 +4,7 @@ ghost use Rattle.std.specs.Prelude.{◌≡◌, ◌<◌, length, nat_lt};
 ghost use Rattle.std.specs.List.{list_all};
 ghost use Rattle.qccd_circuit.specs.Item.{cond_bits};
 ghost use Rattle.op_table.specs.Step.{has_trap, has_segment, has_junction};
-ghost use Rattle.op_cells.specs.Placed.{bits_below, placed};
+ghost use Rattle.op_cells.specs.Placed.{bits_below, names_parts_there};
 
 use op_table::{Op, OpKind};
 use qccd_base::{Bit, JuncId, SegId, TrapId};
@@ -14,7 +14,7 @@ use qccd_machine::Machine;
 /// Whether the traps, segments and junctions that the operation names are there, and its bits are below
 /// so many.
 pub(crate) fn is_placed(machine: &Machine, bits: usize, op: &Op) -> bool
-    ensures { result ≡ placed machine.now bits op.now }
+    ensures { result ≡ names_parts_there machine.now bits op.now }
 {
     match op.kind() {
         OpKind::Split { trap, end: _, seg } => {

@@ -14,7 +14,7 @@ use Rattle.qccd_machine.specs.Machine.{MachineData, IsValid}
 use Rattle.op_table.specs.declared.kinds.OpKind.{OpKind}
 use Rattle.op_table.specs.declared.contents.Content.TheVariants as holds
 use Rattle.op_table.specs.declared.contents.Entry.{Entry}
-use Rattle.op_table.specs.Act.{trap_of}
+use Rattle.op_table.specs.Act.{trap_content}
 use Rattle.op_table.specs.Contents.{content}
 use Rattle.op_table.specs.Start.{IsStart}
 use Rattle.op_table.specs.State.{IonPlace, InTrap, Stand, State, is_at, place_from, place_or, opening}
@@ -67,9 +67,9 @@ cold_opening m n bits chains (res.Junc j) start =
 cold_opening m n bits chains (res.Bit b) start = refl
 
 pub trap_opening : (m : MachineData) (n bits : ℕ) (chains : List (List Ion)) (i : ℕ) (es : List Entry) (ions : List Ion) → IsStart m n chains → i < length m.capacities → es ≡ map start_entry ions → slice_get chains i ≡ Some ions
-    → IsOpeningAt m n bits chains i (trap_of es 0)
+    → IsOpeningAt m n bits chains i (trap_content es 0)
 trap_opening m n bits chains i es ions start less made read (res.Trap t) there at =
-    ap (λ (xs : List Entry). trap_of xs 0) (made ∙ ap (map start_entry) (sym (ap (λ (k : ℕ). get_or chains k []) at ∙ get_or_from_slice_get chains i ions [] read)))
+    ap (λ (xs : List Entry). trap_content xs 0) (made ∙ ap (map start_entry) (sym (ap (λ (k : ℕ). get_or chains k []) at ∙ get_or_from_slice_get chains i ions [] read)))
     ∙ sym (trap-start m n bits chains t start)
 trap_opening m n bits chains i es ions start less made read (res.Seg g) there at = absurd (omega (arith, less, at))
 trap_opening m n bits chains i es ions start less made read (res.Junc j) there at = absurd (omega (arith, less, at))

@@ -14,7 +14,7 @@ use Rattle.qccd_base.specs.declared.names.SegEnd.{SegEnd}
 use Rattle.qccd_base.specs.declared.names.SegEnd.TheVariants.{A}
 use Rattle.qccd_machine.specs.Machine.{MachineData}
 use Rattle.op_table.specs.declared.kinds.OpKind.TheVariants.{Split, Move, Enter, Leave, Merge, Rot, GSwap}
-use Rattle.op_table.specs.State.{IonPlace, InTrap, OnSegment, InJunction, Stand, State, is_at, is_on_segment, ions_in, qubit_at, heat_of, rider_on, IsSafe}
+use Rattle.op_table.specs.State.{IonPlace, InTrap, OnSegment, InJunction, Stand, State, is_at, is_on_segment, ions_in, qubit_at, heat_of, ion_on_segment, IsSafe}
 use Rattle.time_heat.specs.Heat.{moved_heat, entered_heat}
 use Rattle.op_table.specs.declared.contents.Entry.{Entry}
 use Rattle.op_table.specs.declared.contents.Rider.{Rider}
@@ -192,7 +192,7 @@ pub merge_home : (m : MachineData) (s : State) (g : SegId) (t : TrapId) (e : End
 merge_home m s g t e x safe is below =
     let found = rider_stand s g.0 x is in
     let own : carrier s x.entry.qubit ≡ Some found.0.1 = carrier_is m s found.0.0 found.0.1 x.entry.qubit safe below found.1 (ap (λ (y : Rider). y.entry.qubit.0 == x.entry.qubit.0) found.3 ∙ eq-eqb x.entry.qubit.0 x.entry.qubit.0 refl) in
-    placed_of (merge_place g.0 t.0 (ions_in s t.0) e) (set s.heats t.0 (merged_heat (heat_of s t.0) (rider_heat (rider_on s g.0)))) s x.entry.qubit found.0.1 own
+    placed_of (merge_place g.0 t.0 (ions_in s t.0) e) (set s.heats t.0 (merged_heat (heat_of s t.0) (rider_heat (ion_on_segment s g.0)))) s x.entry.qubit found.0.1 own
     ∙ merge_into g.0 t.0 (ions_in s t.0) e found.0.1.place found.2
 
 pub merge_others : (m : MachineData) (s : State) (g : SegId) (t : TrapId) (e : End) (x : Rider) (q : Qubit) → IsSafe m s
@@ -206,7 +206,7 @@ merge_others m s g t e x q safe is below other =
           absurd (other (sym (eqb-true who.1.qubit.0 q.0 who.3) ∙ ap (λ (y : Rider). y.entry.qubit.0) (sym (same_Some x (rider_of (who.0, who.1)) same))))
       | inr h ↦ h
     ] in
-    placed_of (merge_place g.0 t.0 (ions_in s t.0) e) (set s.heats t.0 (merged_heat (heat_of s t.0) (rider_heat (rider_on s g.0)))) s q who.1 who.4
+    placed_of (merge_place g.0 t.0 (ions_in s t.0) e) (set s.heats t.0 (merged_heat (heat_of s t.0) (rider_heat (ion_on_segment s g.0)))) s q who.1 who.4
     ∙ merge_trap g.0 t.0 (ions_in s t.0) e who.1.place off ∙ sym (home_of s q who.1 who.4)
   where
     at_most : (b : Bool) {n : ℕ} → n ≤ (if b then 1 else 0) → n ≤ 1

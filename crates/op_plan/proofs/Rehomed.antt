@@ -15,7 +15,7 @@ use Rattle.op_table.specs.declared.kinds.OpKind.TheVariants.{Split, Move, Enter,
 use Rattle.op_table.specs.Act.{end_index}
 use Rattle.op_table.specs.Contents.{chain, content, rider, rider_of}
 use Rattle.op_table.specs.Op.{IsOp}
-use Rattle.op_table.specs.State.{State, Stand, ions_in, rider_on, IsSafe}
+use Rattle.op_table.specs.State.{State, Stand, ions_in, ion_on_segment, IsSafe}
 use Rattle.op_table.specs.Step.{needs, why, effect}
 use Rattle.op_table.specs.Touch.{touches}
 use Rattle.op_table.proofs.Chains.{length-chain}

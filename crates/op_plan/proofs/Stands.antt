@@ -14,7 +14,7 @@ use Rattle.op_table.specs.Contents.{chain, entry_of}
 use Rattle.op_table.specs.State.{IonPlace, InTrap, OnSegment, InJunction, Stand, State, is_at, ions_in, IsSafe}
 use Rattle.op_table.proofs.Chains.{length-chain}
 use Rattle.op_table.proofs.Found.{at_own, chain_stand, seek_unique, stand_chain}
-use Rattle.op_plan.specs.Place.{place_of, trap_and_position, stands_in, home}
+use Rattle.op_plan.specs.Place.{ion_place, trap_and_position, stands_in, home}
 use Rattle.op_plan.proofs.Homes.{carrier, carrier_there, home_is, home_in, trap_at}
 
 none_passes : {X : Type 0} (p : X → Bool) (xs : List X) (k : ℕ) (x : X) → slice_get xs k ≡ Some x → p x ≡ true → position p xs ≡ None → ⊥
@@ -59,7 +59,7 @@ place_is s q w t is at = by_place w.place refl (sym (ap home_in is) ∙ sym (hom
 -- it stands there, and is found in the chain
 pub record Found (s : State) (q : Qubit) (t : TrapId) : Type 0 where
   pub index : ℕ
-  pub place : place_of s q ≡ Some (InTrap t.0 index)
+  pub place : ion_place s q ≡ Some (InTrap t.0 index)
   pub within : index < ions_in s t.0
   pub first : position (λ (e : Entry). e.qubit.0 == q.0) (chain s t.0) ≡ Some index
   pub only : (j : ℕ) (y : Entry) → slice_get (chain s t.0) j ≡ Some y → (y.qubit.0 == q.0) ≡ true → j ≡ index

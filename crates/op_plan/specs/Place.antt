@@ -7,8 +7,8 @@ use Rattle.qccd_base.specs.declared.names.TrapId.{TrapId}
 use Rattle.op_table.specs.State.{IonPlace, InTrap, OnSegment, InJunction, Stand, State, ions_in, qubit_at}
 
 -- the place of the ion that carries the qubit
-abbrev pub place_of : State → Qubit → Option IonPlace
-place_of s q = option_map (λ (w : Stand). w.place) (find (λ (w : Stand). w.qubit.0 == q.0) s.ions)
+abbrev pub ion_place : State → Qubit → Option IonPlace
+ion_place s q = option_map (λ (w : Stand). w.place) (find (λ (w : Stand). w.qubit.0 == q.0) s.ions)
 
 -- the trap and the position there, of a place in a trap
 abbrev pub trap_and_position : Option IonPlace → Option (TrapId × ℕ)
@@ -19,7 +19,7 @@ trap_and_position (Some (InJunction j h)) = None
 
 -- the trap in which the qubit stands and its position there; none while its ion is in no trap
 abbrev pub stands_in : State → Qubit → Option (TrapId × ℕ)
-stands_in s q = trap_and_position (place_of s q)
+stands_in s q = trap_and_position (ion_place s q)
 
 -- that trap alone
 abbrev pub home : State → Qubit → Option TrapId
@@ -39,10 +39,10 @@ position_in (Some (OnSegment g e h)) = 0
 position_in (Some (InJunction j h)) = 0
 
 abbrev pub trap_of : State → Qubit → ℕ
-trap_of s q = trap_in (place_of s q)
+trap_of s q = trap_in (ion_place s q)
 
 abbrev pub position_of : State → Qubit → ℕ
-position_of s q = position_in (place_of s q)
+position_of s q = position_in (ion_place s q)
 
 -- the qubits of a trap, from left to right
 abbrev pub qubits_in : State → ℕ → List Qubit

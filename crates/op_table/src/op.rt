@@ -9,15 +9,23 @@ use crate::touched::Touched;
 use qccd_base::{NoMemory, Res};
 use std::alloc::Global;
 use std::marker::Model;
+use std::sync::Arc;
 
-/// An operation with the resources that it touches, in their order.
+/// An operation with the resources that it touches, in their order. Its copies share one place in memory, so
+/// a program of many equal operations takes eight bytes for each.
 #[derive(Debug, Drop)]
 pub struct Op {
+    whole: Arc<Whole>,
+}
+
+// What the copies of an operation share.
+#[derive(Debug, Drop)]
+struct Whole {
     kind: OpKind,
     touched: Touched,
 }
 
-impl Model for Op {
+impl Model for Whole {
     ghost use Rattle.std.specs.Prelude.{◌≡◌};
     ghost use Rattle.op_table.specs.declared.kinds.OpKind.{OpKind};
     ghost use Rattle.op_table.specs.Op.{IsOp, KeepsItemRule};
@@ -31,9 +39,33 @@ impl Model for Op {
     ghost invariant = { λ a. IsOp a.kind × KeepsItemRule a.kind × (listed a.touched ≡ touches a.kind) };
 }
 
+impl Model for Op {
+    ghost use Rattle.std.specs.Arc.{arc_value};
+    ghost use Rattle.op_table.specs.declared.kinds.OpKind.{OpKind};
+
+    ghost Value = { OpKind };
+
+    ghost view = { λ a. arc_value a.whole };
+}
+
+impl Whole {
+    fn kind(&self) -> &OpKind
+        ensures value { result.now ≡ self.now }
+        ensures is_op { IsOp self.now }
+        ensures item_rule { KeepsItemRule self.now }
+    {
+        &self.kind
+    }
+
+    fn touches(&self) -> &[Res]
+        ensures { result.now ≡ touches self.now }
+    {
+        self.touched.as_slice()
+    }
+}
+
 impl Op {
-    /// The operation of this kind, or that memory ran out, which comes only where it touches more than
-    /// two resources.
+    /// The operation of this kind, or that memory ran out.
     // The caller mostly knows the kind, and inlined the operation is built where it goes.
     #[inline(always)]
     pub fn of(alloc: Global, kind: OpKind) -> Result<Op, NoMemory>
@@ -42,7 +74,18 @@ impl Op {
     {
         has_item_rule(&kind);
         let touched = Touched::by(alloc, &kind)?;
-        Ok(Op { kind, touched })
+        let whole = Arc::new(alloc, Whole { kind, touched })?;
+        Ok(Op { whole })
+    }
+
+    /// The same operation, with which it shares its memory, or that no more may share it (which is told as
+    /// want of memory).
+    #[inline(always)]
+    pub fn copy(&self) -> Result<Op, NoMemory>
+        ensures { IfOk result (λ op. op ≡ self.now) }
+    {
+        let whole = Arc::try_clone(&self.whole)?;
+        Ok(Op { whole })
     }
 
     /// What it does.
@@ -51,14 +94,14 @@ impl Op {
         ensures is_op { IsOp self.now }
         ensures item_rule { KeepsItemRule self.now }
     {
-        &self.kind
+        self.whole.kind()
     }
 
     /// The resources that it touches, ascending.
     pub fn touches(&self) -> &[Res]
         ensures { result.now ≡ touches self.now }
     {
-        self.touched.as_slice()
+        self.whole.touches()
     }
 }
 
@@ -67,39 +110,9 @@ fn has_item_rule(kind: &OpKind)
     ensures { KeepsItemRule kind.now }
 {
     match kind {
-        OpKind::Item {
-            number: _,
-            trap: _,
-            item,
-            at: _,
-        } => {
+        OpKind::Item { item, .. } | OpKind::Fence { item, .. } => {
             let _kind = item.kind();
         }
-        OpKind::Fence {
-            number: _,
-            item,
-            traps: _,
-        } => {
-            let _kind = item.kind();
-        }
-        OpKind::Split {
-            trap: _,
-            end: _,
-            seg: _,
-        } => {}
-        OpKind::Move { seg: _ } => {}
-        OpKind::Enter { seg: _, junc: _ } => {}
-        OpKind::Leave { junc: _, seg: _ } => {}
-        OpKind::Merge {
-            seg: _,
-            trap: _,
-            end: _,
-        } => {}
-        OpKind::Rot { trap: _, at: _ } => {}
-        OpKind::GSwap {
-            trap: _,
-            low: _,
-            high: _,
-        } => {}
+        _ => {}
     }
 }

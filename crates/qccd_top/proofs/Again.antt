@@ -3,8 +3,8 @@ use Rattle.std.proofs.Common.{◌≡◌, ℕ, ◌≤◌, List, length, Some, sym
 use Rattle.qccd_base.specs.declared.names.Mode.{Mode}
 use Rattle.qccd_io.specs.Shelf.{Holding}
 use Rattle.qccd_machine.specs.Machine.{MachineData}
-use Rattle.claim_core.specs.Legal.{IsLegalProgram}
-use Rattle.claim_core.specs.Program.{ProgramData}
+use Rattle.qccd_program.specs.Legal.{IsLegalProgram}
+use Rattle.qccd_program.specs.Program.{ProgramData}
 use Rattle.transport_asm.specs.ProgramText.{program_text, spelled}
 use Rattle.transport_asm.specs.Texts.{Spells}
 use Rattle.transport_asm.proofs.Rule.{raw_fitting}

@@ -1,7 +1,7 @@
 -- What follows where one stage comes after another.
 use Rattle.std.proofs.Common.{◌≡◌, ℕ, inl, inr, List, Option, Some, None, Result, Ok, Err, IsErrAnd, refl, sym, ◌∙◌, subst, arith}
-use Rattle.qccd_refusals.specs.declared.refusal.Refusal.{Refusal}
-use Rattle.qccd_refusals.specs.Cause.{Cause, Words, Read, Write, NoMemory, cause_of}
+use Rattle.qccd_messages.specs.declared.refusal.Refusal.{Refusal}
+use Rattle.qccd_messages.specs.Cause.{Cause, Words, Read, Write, NoMemory, cause_of}
 use Rattle.qccd_io.specs.Faults.{Rose}
 use Rattle.qccd_io.specs.Shelf.{Holding}
 use Rattle.qccd_io.proofs.Faulting.{Rose-from_later}

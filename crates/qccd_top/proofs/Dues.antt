@@ -1,7 +1,7 @@
 -- The status is the one that is due, unless memory ran out or a count of faults rose.
 use Rattle.std.proofs.Common.{◌≡◌, ℕ, inl, inr, List, Option, Some, refl, sym, ◌∙◌, ap, subst}
 use Rattle.qccd_io.specs.Shelf.{Holding}
-use Rattle.qccd_refusals.specs.Cause.{Cause, Read, Write, NoMemory, status_of}
+use Rattle.qccd_messages.specs.Cause.{Cause, Read, Write, NoMemory, status_of}
 use Rattle.qccd_top.specs.Stage.{Refuses, Stage}
 use Rattle.qccd_top.specs.Means.{TextFor}
 use Rattle.qccd_top.specs.Call.{Output, Call, ReadFailed}

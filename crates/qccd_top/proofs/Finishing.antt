@@ -4,8 +4,8 @@ use Rattle.qccd_io.specs.Sends.{Sends}
 use Rattle.qccd_io.specs.Sink.{appended, known_length, Behind}
 use Rattle.qccd_io.proofs.Appended.{appended-nothing, prefix-finished}
 use Rattle.qccd_io.proofs.Faulting.{Rose-from_later}
-use Rattle.qccd_refusals.specs.declared.refusal.Refusal.{Refusal}
-use Rattle.qccd_refusals.specs.declared.refusal.Refusal.TheVariants as refusal
+use Rattle.qccd_messages.specs.declared.refusal.Refusal.{Refusal}
+use Rattle.qccd_messages.specs.declared.refusal.Refusal.TheVariants as refusal
 use Rattle.qccd_top.specs.Stage.{Just}
 use Rattle.qccd_top.specs.Call.{output}
 use Rattle.qccd_top.specs.Done.{Did, Writes}

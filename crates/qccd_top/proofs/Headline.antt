@@ -11,8 +11,8 @@ use Rattle.qccd_machine.specs.Machine.{MachineData, IsValid, slots_of, worst_of}
 use Rattle.qccd_machine.proofs.Presets.{valid_preset}
 use Rattle.qasm_reader.specs.Reading.{IsCircuitOf}
 use Rattle.qasm_reader.proofs.Answered.{keeps_the_rule}
-use Rattle.claim_core.specs.Legal.{IsLegalProgram}
-use Rattle.claim_core.specs.Program.{ProgramData}
+use Rattle.qccd_program.specs.Legal.{IsLegalProgram}
+use Rattle.qccd_program.specs.Program.{ProgramData}
 use Rattle.compiler.specs.Chosen.{chosen, chosen_first, chosen_long}
 use Rattle.compiler.specs.Compiled.{IsProgramFor}
 use Rattle.compiler.proofs.Answering.{worst-small}
@@ -26,7 +26,7 @@ use Rattle.tracer.specs.Report.{report_text}
 use Rattle.tracer.specs.Summary.{summary_text}
 use Rattle.qccd_words.specs.Words.{AskedMachine, OfPreset, OfFile, Asked, AskedRun, AskedCompile, AskedExec, AskedCheck, AskedRehearse, request_of, HasCapacity}
 use Rattle.qccd_words.proofs.Capacities.{request-limits}
-use Rattle.qccd_refusals.specs.Cause.{Cause, Write, status_of}
+use Rattle.qccd_messages.specs.Cause.{Cause, Write, status_of}
 use Rattle.qccd_top.specs.Stage.{Gives, ◌>>=◌}
 use Rattle.qccd_top.specs.Stages.{MachineIn, CircuitIn}
 use Rattle.qccd_top.specs.Means.{CompiledIn, LoadedIn, CheckedIn, TextOf, TextFor}

@@ -4,7 +4,7 @@ use Rattle.qccd_io.specs.Shelf.{Holding}
 use Rattle.qccd_base.specs.declared.names.Mode.{Mode}
 use Rattle.qccd_words.specs.Words.{AskedMachine, OfPreset, OfFile, Asked, AskedRun, AskedCompile, AskedExec, AskedCheck, AskedRehearse, request_of}
 use Rattle.qccd_machine.specs.Machine.{MachineData}
-use Rattle.qccd_refusals.specs.Cause.{Cause, Words, status_of}
+use Rattle.qccd_messages.specs.Cause.{Cause, Words, status_of}
 use Rattle.qccd_top.specs.declared.limits.TheConstants.{CIRCUIT_LIMIT, MACHINE_LIMIT, PROGRAM_LIMIT}
 use Rattle.qccd_top.specs.Stage.{Stage, Refuses, ◌>>=◌}
 use Rattle.qccd_top.specs.Stages.{FileIn, MachineOf, MachineIn, CircuitOf, CircuitIn, RawOf, RawIn, LoadedOn, ProgramIn}

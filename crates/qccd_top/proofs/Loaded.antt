@@ -7,10 +7,10 @@ use Rattle.qccd_machine.specs.Machine.{MachineData, IsValid}
 use Rattle.op_table.specs.declared.kinds.OpKind.{OpKind}
 use Rattle.op_table.specs.Op.{IsOp, KeepsItemRule}
 use Rattle.op_table.specs.Run.{IsRun}
-use Rattle.claim_core.specs.Legal.{IsLegalProgram}
-use Rattle.claim_core.specs.Program.{ProgramData, opening_of}
-use Rattle.claim_core.proofs.Meets.{run-meets}
-use Rattle.claim_core.proofs.Runs.{bounds-kept}
+use Rattle.qccd_program.specs.Legal.{IsLegalProgram}
+use Rattle.qccd_program.specs.Program.{ProgramData, opening_of}
+use Rattle.qccd_program.proofs.Meets.{run-meets}
+use Rattle.qccd_program.proofs.Runs.{bounds-kept}
 use Rattle.transport_asm.specs.ProgramText.{program_text}
 use Rattle.transport_asm.specs.Texts.{RawData, Spells}
 use Rattle.transport_asm.specs.Writable.{IsWritable, IsWritableRaw}
@@ -20,7 +20,7 @@ use Rattle.loader.specs.Refusal.{on_machine, load_refusal}
 use Rattle.loader.proofs.LegalLoads.{start_is, legal_if_none, none_parts}
 use Rattle.tracer.specs.TimeOrder.{listed_ops}
 use Rattle.tracer.proofs.Listed.{program-listed, program-bounds}
-use Rattle.qccd_refusals.specs.declared.refusal.Refusal.{Refusal}
+use Rattle.qccd_messages.specs.declared.refusal.Refusal.{Refusal}
 use Rattle.qccd_top.specs.Stage.{Gives, ◌>>=◌, viewed}
 use Rattle.qccd_top.specs.Stages.{ProgramIn}
 use Rattle.qccd_top.specs.Headline.{RunsWell, HoldsText}

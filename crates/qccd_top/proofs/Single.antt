@@ -8,7 +8,7 @@ use Rattle.qccd_machine.specs.Machine.{MachineData, worst_of}
 use Rattle.qccd_machine.specs.Preset.{preset_of}
 use Rattle.machine_text.proofs.Answered as machine_texts
 use Rattle.qasm_reader.proofs.Answered.{one_circuit, one_refusal, not_both}
-use Rattle.claim_core.specs.Program.{ProgramData}
+use Rattle.qccd_program.specs.Program.{ProgramData}
 use Rattle.rehearsal.specs.Generated.{generated}
 use Rattle.compiler.specs.Chosen.{chosen_long}
 use Rattle.compiler.proofs.Answering.{one_too_long}
@@ -20,7 +20,7 @@ use Rattle.loader.specs.Refusal.{load_refusal}
 use Rattle.meaning_check.specs.declared.verdict.Verdict.TheVariants.{Same}
 use Rattle.meaning_check.proofs.Verdicts.{one_at_most}
 use Rattle.qccd_words.specs.Words.{AskedMachine, OfPreset, OfFile, Asked, AskedRun, AskedCompile, AskedExec, AskedCheck, AskedRehearse}
-use Rattle.qccd_refusals.specs.Cause.{Cause, Words, Read, TooLarge, Machine, Circuit, Shortage, TooLong, Asm, Load, NotSame}
+use Rattle.qccd_messages.specs.Cause.{Cause, Words, Read, TooLarge, Machine, Circuit, Shortage, TooLong, Asm, Load, NotSame}
 use Rattle.qccd_top.specs.declared.limits.TheConstants.{CIRCUIT_LIMIT, MACHINE_LIMIT, PROGRAM_LIMIT}
 use Rattle.qccd_top.specs.Stages.{WordsOf, FileIn, MachineOf, MachineIn, CircuitOf, CircuitIn, Compiled, RawOf, RawIn, LoadedOn, ProgramIn, SameAs}
 use Rattle.qccd_top.specs.Means.{CompiledIn, LoadedIn, CheckedIn, RehearsedIn, TextOf, TextFor}

@@ -20,11 +20,11 @@ use Rattle.op_table.specs.State.{State, IsSafe, ions_in}
 use Rattle.op_table.specs.Step.{has_trap, has_segment, has_junction, has_bits, needs, why, effect}
 use Rattle.op_table.proofs.Every.{safe-effect}
 use Rattle.op_table.proofs.Openings.{ion_below, opening-safe}
-use Rattle.claim_core.specs.Implements.{Implements}
-use Rattle.claim_core.specs.Legal.{IsLegalProgram}
-use Rattle.claim_core.specs.Program.{ProgramData, opening_of}
+use Rattle.qccd_program.specs.Implements.{Implements}
+use Rattle.qccd_program.specs.Legal.{IsLegalProgram}
+use Rattle.qccd_program.specs.Program.{ProgramData, opening_of}
 use Rattle.transport_asm.specs.ProgramText.{spelled}
-use Rattle.transport_asm.specs.Slots.{greatest}
+use Rattle.op_text.specs.Slots.{greatest}
 use Rattle.transport_asm.specs.Writable.{KeepsLimits, IsWritable, IsWritableChain, IsWritableRaw}
 
 -- ---- what holds of each

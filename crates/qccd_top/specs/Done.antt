@@ -3,9 +3,9 @@ use Rattle.std.specs.Prelude.{◌≡◌, ◌≤◌, ℕ, ◌⊎◌, List, Option
 use Rattle.qccd_io.specs.Faults.{Rose}
 use Rattle.qccd_io.specs.Shelf.{Holding}
 use Rattle.qccd_io.specs.Sink.{appended, TookPrefix}
-use Rattle.qccd_refusals.specs.declared.refusal.Refusal.{Refusal}
-use Rattle.qccd_refusals.specs.Cause.{Cause, Write, cause_of, status_of}
-use Rattle.qccd_refusals.specs.Message.{message_of}
+use Rattle.qccd_messages.specs.declared.refusal.Refusal.{Refusal}
+use Rattle.qccd_messages.specs.Cause.{Cause, Write, cause_of, status_of}
+use Rattle.qccd_messages.specs.Message.{message_of}
 use Rattle.qccd_top.specs.Stage.{Stage, Just, Gives, Refuses, IsRefusal}
 use Rattle.qccd_top.specs.Means.{TextFor}
 use Rattle.qccd_top.specs.Call.{Output, output, WriteFailed, Call, ReadFailed}

@@ -8,9 +8,9 @@ use Rattle.qccd_io.specs.Sink.{appended, TookPrefix}
 use Rattle.qccd_circuit.specs.Circuit.{CircuitData, IsCircuit}
 use Rattle.qccd_machine.specs.Machine.{MachineData, IsValid, slots_of}
 use Rattle.op_table.specs.Run.{IsRun}
-use Rattle.claim_core.specs.Legal.{IsLegalProgram}
-use Rattle.claim_core.specs.Program.{ProgramData, opening_of}
-use Rattle.claim_core.specs.Implements.{Implements, KeepsBounds, MeetsOperands}
+use Rattle.qccd_program.specs.Legal.{IsLegalProgram}
+use Rattle.qccd_program.specs.Program.{ProgramData, opening_of}
+use Rattle.qccd_program.specs.Implements.{Implements, KeepsBounds, MeetsOperands}
 use Rattle.compiler.specs.Chosen.{chosen}
 use Rattle.rehearsal.specs.Generated.{generated}
 use Rattle.transport_asm.specs.ProgramText.{program_text}

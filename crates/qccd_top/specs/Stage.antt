@@ -3,8 +3,8 @@ use Rattle.std.specs.Prelude.{◌≡◌, ◌≤◌, ℕ, Option, ◌⊎◌, List
 use Rattle.std.specs.declared.alloc.Global.{Global}
 use Rattle.qccd_io.specs.Faults.{Rose}
 use Rattle.qccd_io.specs.Shelf.{Holding}
-use Rattle.qccd_refusals.specs.declared.refusal.Refusal.{Refusal}
-use Rattle.qccd_refusals.specs.Cause.{Cause, Read, Write, NoMemory, cause_of}
+use Rattle.qccd_messages.specs.declared.refusal.Refusal.{Refusal}
+use Rattle.qccd_messages.specs.Cause.{Cause, Read, Write, NoMemory, cause_of}
 
 -- a stage gives a value, or refuses the command, or is the one that fetches the file of this name
 pub data Answer (A : Type 0) : Type 0 where

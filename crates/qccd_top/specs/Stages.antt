@@ -8,7 +8,7 @@ use Rattle.qccd_machine.specs.Machine.{MachineData, slots_of}
 use Rattle.qccd_machine.specs.Preset.{preset_of}
 use Rattle.machine_text.specs.Machine.{IsMachineOf, IsRefusalOf}
 use Rattle.qasm_reader.specs.Reading.{IsCircuitOf, IsRefusedAt}
-use Rattle.claim_core.specs.Program.{ProgramData}
+use Rattle.qccd_program.specs.Program.{ProgramData}
 use Rattle.compiler.specs.Chosen.{IsTooLong}
 use Rattle.compiler.specs.Compiled.{IsProgramFor, IsShortage}
 use Rattle.transport_asm.specs.Lines.{refused}
@@ -17,7 +17,7 @@ use Rattle.loader.specs.Refusal.{on_machine, load_refusal}
 use Rattle.meaning_check.specs.Verdict.{IsVerdict}
 use Rattle.meaning_check.specs.declared.verdict.Verdict.TheVariants.{Same}
 use Rattle.qccd_words.specs.Words.{AskedMachine, OfPreset, OfFile, Asked, request_of}
-use Rattle.qccd_refusals.specs.Cause.{Words, Read, TooLarge, Machine, Circuit, Shortage, TooLong, Asm, Load, NotSame}
+use Rattle.qccd_messages.specs.Cause.{Words, Read, TooLarge, Machine, Circuit, Shortage, TooLong, Asm, Load, NotSame}
 use Rattle.qccd_top.specs.declared.limits.TheConstants.{CIRCUIT_LIMIT, MACHINE_LIMIT, PROGRAM_LIMIT}
 use Rattle.qccd_top.specs.Stage.{Gives, Refuses, Fetches, Stage, ◌>>=◌, Just}
 

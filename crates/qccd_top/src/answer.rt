@@ -3,7 +3,7 @@
 ghost use Rattle.std.specs.Prelude.{◌≡◌, None, IsErrAnd, map, string_bytes};
 ghost use Rattle.qccd_io.specs.Shelf.{NoneIsOut};
 ghost use Rattle.qccd_words.specs.Words.{AskedRun, AskedCompile, AskedExec, AskedCheck, AskedRehearse, asked, machine_asked, request_of, AreFew, HasCapacity, IsWithinLimits};
-ghost use Rattle.qccd_refusals.specs.Cause.{Words, cause_of};
+ghost use Rattle.qccd_messages.specs.Cause.{Words, cause_of};
 ghost use Rattle.qccd_top.specs.Means.{TextFor, TextOf};
 ghost use Rattle.qccd_top.specs.Done.{Does};
 
@@ -12,7 +12,7 @@ use crate::programs::{checked_in, loaded_in};
 use crate::stages::{compiled_in, rehearsed_in};
 use qccd_base::Mode;
 use qccd_io::{Shelf, Sink};
-use qccd_refusals::Refusal;
+use qccd_messages::Refusal;
 use qccd_words::{Command, MachineWord, request};
 use std::alloc::Global;
 

@@ -8,7 +8,7 @@ ghost use Rattle.qccd_words.specs.Words.{request_of};
 use crate::top::run;
 use qccd_base::NoMemory;
 use qccd_io::{FileShelf, NoPost, StdSink};
-use qccd_refusals::{Refusal, tell};
+use qccd_messages::{Refusal, tell};
 use std::env;
 use std::io::{ErrorKind, Write};
 use std::process::ExitCode;

@@ -2,17 +2,17 @@
 
 ghost use Rattle.std.specs.Prelude.{◌≡◌, IfErr, codes};
 ghost use Rattle.qccd_io.specs.Sends.{Sends};
-ghost use Rattle.claim_core.specs.AllCells.{AtEnd};
+ghost use Rattle.qccd_program.specs.AllCells.{AtEnd};
 ghost use Rattle.transport_asm.specs.ProgramText.{program_text};
 ghost use Rattle.tracer.specs.Report.{report_text};
 ghost use Rattle.tracer.specs.Summary.{summary_text};
-ghost use Rattle.qccd_refusals.specs.declared.refusal.Refusal.TheVariants.{Write};
+ghost use Rattle.qccd_messages.specs.declared.refusal.Refusal.TheVariants.{Write};
 ghost use Rattle.qccd_top.specs.Done.{Writes};
 
-use claim_core::{Program, run_in_order};
+use qccd_program::{Program, run_in_order};
 use op_cells::Cells;
 use qccd_io::{Buffer, Buffered, Failed, Sink, send};
-use qccd_refusals::Refusal;
+use qccd_messages::Refusal;
 use std::alloc::Global;
 use tracer::ReportFault;
 use transport_asm::write_program;

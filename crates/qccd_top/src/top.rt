@@ -10,7 +10,7 @@ ghost use Rattle.qccd_top.specs.Headline.{AsksRun, AsksCompile, AsksExec, AsksCh
 
 use crate::answer::answer;
 use qccd_io::{Post, Shelf, Sink};
-use qccd_refusals::tell;
+use qccd_messages::tell;
 use std::alloc::Global;
 use std::thread::Threads;
 

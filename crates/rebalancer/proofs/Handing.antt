@@ -14,7 +14,7 @@ use Rattle.qccd_machine.specs.Machine.{MachineData, IsValid, hop_bound}
 use Rattle.op_table.specs.declared.kinds.OpKind.{OpKind}
 use Rattle.op_table.specs.State.{IonPlace, InTrap, Stand, State, ions_in}
 use Rattle.op_table.specs.Run.{after}
-use Rattle.op_plan.specs.Place.{home, place_of, qubits_in, trap_of}
+use Rattle.op_plan.specs.Place.{home, ion_place, qubits_in, trap_of}
 use Rattle.op_plan.proofs.Runs.{state_ions}
 use Rattle.op_plan.specs.Plan.{PlanData, Agrees, Continues, IsPlan, state_of, with_ops}
 use Rattle.chain_reorder.specs.Layout.{settled}
@@ -167,7 +167,7 @@ handed_stands m p t u keep q agrees plan nothing is =
     let rests : Rests m s cs = plan_rests m p agrees plan nothing in
     let some : 1 ≤ times_in (cs t) q.0 = seen_stands (λ r. not (is_kept keep r)) (leaving_end m t (unwrap_or (hop_path (wiring_of m) t u) [])) (cs t) q is in
     let at : At (cs t) q.0 = at_times (cs t) q.0 some in
-    let place : place_of s q ≡ Some (InTrap t at.index) = stands_at s (settled cs) t at.index q rests.once rests.lies (at.there ∙ ap (λ (n : ℕ). Some (record { 0 = n })) at.is) in
+    let place : ion_place s q ≡ Some (InTrap t at.index) = stands_at s (settled cs) t at.index q rests.once rests.lies (at.there ∙ ap (λ (n : ℕ). Some (record { 0 = n })) at.is) in
     let ion : (w : Stand) × (find (λ (w : Stand). w.qubit.0 == q.0) s.ions ≡ Some w) = some_place (find (λ (w : Stand). w.qubit.0 == q.0) s.ions) (InTrap t at.index) place in
     (stands_where m s cs t q rests some, omega (arith, carried_below m s q.0 (plan_safe m p agrees plan) (found_counts (λ (w : Stand). w.qubit.0 == q.0) s.ions ion.0 ion.1), state_ions p))
 

@@ -19,7 +19,7 @@ use Rattle.op_table.specs.Run.{IsRun, after}
 use Rattle.chain_reorder.specs.Layout.{Layout, Lies, with_at, joined, settled, on_segment, listed}
 use Rattle.router.specs.Paths.{way_along, goes_on, is_last, is_path}
 use Rattle.rebalancer.specs.Hop.{leave_by, arrive_by, along_way, along, leaving_end, near_end, end_of_way, hop_along}
-use Rattle.op_plan.specs.Place.{trap_of, position_of, place_of, trap_in, position_in}
+use Rattle.op_plan.specs.Place.{trap_of, position_of, ion_place, trap_in, position_in}
 use Rattle.chain_reorder.specs.Reorder.{to_end, reorder_ops}
 use Rattle.chain_reorder.proofs.Lists.{count_by-cons}
 use Rattle.std.specs.List.{list_all}
@@ -86,7 +86,7 @@ first_viewed v (x ∷ xs) y is = (x, xs, refl, (let e : v x ∷ map v xs ≡ y �
 abbrev pub Once : State → Type 0
 Once s = (n : ℕ) → count_by (λ (w : Stand). w.qubit.0 == n) s.ions ≤ 1
 
-pub stands_at : (s : State) (l : Layout) (t k : ℕ) (q : Qubit) → Once s → Lies s l → slice_get (l.chains t) k ≡ Some q → place_of s q ≡ Some (InTrap t k)
+pub stands_at : (s : State) (l : Layout) (t k : ℕ) (q : Qubit) → Once s → Lies s l → slice_get (l.chains t) k ≡ Some q → ion_place s q ≡ Some (InTrap t k)
 stands_at s l t k q once lies there =
     let one : (x : Stand) × (ys : List Stand) × (filter (λ (w : Stand). is_at t k w.place) s.ions ≡ x ∷ ys) × (x.qubit ≡ q) = first_viewed (λ (w : Stand). w.qubit) (filter (λ (w : Stand). is_at t k w.place) s.ions) q (lies.chains t k ∙ ap listed there) in
     let passes : eqb one.0.qubit.0 q.0 ≡ true = rw one.3 (eqb_same q.0) in
@@ -96,7 +96,7 @@ stands_at s l t k q once lies there =
 
 pub stands_in : (s : State) (l : Layout) (t k : ℕ) (q : Qubit) → Once s → Lies s l → slice_get (l.chains t) k ≡ Some q → (trap_of s q ≡ t) × (position_of s q ≡ k)
 stands_in s l t k q once lies there =
-    let place : place_of s q ≡ Some (InTrap t k) = stands_at s l t k q once lies there in
+    let place : ion_place s q ≡ Some (InTrap t k) = stands_at s l t k q once lies there in
     (ap trap_in place, ap position_in place)
 
 -- ---- from a trap

@@ -21,7 +21,7 @@ use Rattle.op_table.specs.Contents.{chain, entry_at, entry_of, seek}
 use Rattle.op_table.proofs.Seeking.{seek-find, stand_in}
 use Rattle.op_table.specs.Step.{effect}
 use Rattle.op_table.specs.Run.{IsRun, after}
-use Rattle.op_plan.specs.Place.{home, place_of, position_of, qubits_in, stands_in, trap_and_position, trap_in, trap_of}
+use Rattle.op_plan.specs.Place.{home, ion_place, position_of, qubits_in, stands_in, trap_and_position, trap_in, trap_of}
 use Rattle.op_plan.specs.Plan.{PlanData, Agrees, Continues, IsPlan, state_of, wired, with_ops}
 use Rattle.op_plan.proofs.Agreeing.{effect_agrees, safe_agrees, why_agrees}
 use Rattle.op_plan.proofs.Runs.{state_ions, state_more, state_safe}
@@ -75,7 +75,7 @@ at_home (Some (OnSegment g e h)) t k is = cc
 at_home (Some (InJunction j h)) t k is = cc
 
 pub trap_known : (s : State) (q : Qubit) (t : TrapId) (k : ℕ) → stands_in s q ≡ Some (t, k) → trap_of s q ≡ t.0
-trap_known s q t k is = at_home (place_of s q) t k is
+trap_known s q t k is = at_home (ion_place s q) t k is
 
 pub home_known : (s : State) (q : Qubit) (t : TrapId) (k : ℕ) → stands_in s q ≡ Some (t, k) → home s q ≡ Some t
 home_known s q t k is = ap (option_map (λ (x : TrapId × ℕ). x.0)) is

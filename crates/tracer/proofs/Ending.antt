@@ -25,11 +25,11 @@ use Rattle.op_table.specs.Touch.{touches}
 use Rattle.op_cells.specs.declared.cells.Cell.{Cell}
 use Rattle.op_cells.specs.Numbering.{index_of, IsThere}
 use Rattle.op_cells.specs.Acted.{CellData}
-use Rattle.claim_core.specs.AllCells.{AtEnd}
-use Rattle.claim_core.specs.Legal.{IsLegalProgram}
-use Rattle.claim_core.specs.Program.{ProgramData, opening_of, end_of}
-use Rattle.claim_core.specs.World.{World, world_after, opening_world, clock_of}
-use Rattle.transport_asm.specs.OpText.{next_word}
+use Rattle.qccd_program.specs.AllCells.{AtEnd}
+use Rattle.qccd_program.specs.Legal.{IsLegalProgram}
+use Rattle.qccd_program.specs.Program.{ProgramData, opening_of, end_of}
+use Rattle.qccd_program.specs.World.{World, world_after, opening_world, clock_of}
+use Rattle.op_text.specs.OpText.{next_word}
 use Rattle.tracer.specs.Report.{numbered_ions, chain_of, entry_text, pair_text, stray_text, stray_lines, segment_line, junction_line, last_finish}
 use Rattle.tracer.specs.Summary.{traps_heat}
 use Rattle.op_table.proofs.Counts.{count_by-cons, find_passes}
@@ -39,12 +39,12 @@ use Rattle.op_table.proofs.Neighbours.{own_among}
 use Rattle.op_table.proofs.Every.{safe-effect}
 use Rattle.op_table.proofs.Openings.{opening-safe, opening-cold}
 use Rattle.op_table.proofs.Heats.{trap_heats, all_heat, heat-step}
-use Rattle.claim_core.proofs.Turning.{stepped}
-use Rattle.claim_core.proofs.Clocks.{clock_after}
-use Rattle.claim_core.proofs.Runs.{run_safe}
-use Rattle.claim_core.proofs.Stepping.{own-there}
-use Rattle.claim_core.proofs.MeetsCells.{cells-end}
-use Rattle.claim_core.proofs.Worlds.{clock-last, maps_alike, stepped-state, stepped-clocked}
+use Rattle.qccd_program.proofs.Turning.{stepped}
+use Rattle.qccd_program.proofs.Clocks.{clock_after}
+use Rattle.qccd_program.proofs.Runs.{run_safe}
+use Rattle.qccd_program.proofs.Stepping.{own-there}
+use Rattle.qccd_program.proofs.MeetsCells.{cells-end}
+use Rattle.qccd_program.proofs.Worlds.{clock-last, maps_alike, stepped-state, stepped-clocked}
 use Rattle.tracer.proofs.Collected.{all_res, all_long, at-index, res-at, same_at, touch-some}
 
 -- ---- what a resource holds

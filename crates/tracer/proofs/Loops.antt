@@ -7,7 +7,7 @@ use Rattle.std.proofs.lemmas.List.{take_all}
 use Rattle.qccd_io.specs.Sends.{Sends}
 use Rattle.qccd_io.specs.Sink.{Behind}
 use Rattle.qccd_io.proofs.Sent.{sent_flat}
-use Rattle.transport_asm.proofs.Sending.{sent_more}
+use Rattle.op_text.proofs.Sending.{sent_more}
 
 -- what was sent, said otherwise
 pub sent_as : {X T E : Type 0} {taken : X → Option (List ℕ)} {faults : X → ℕ} {behind : X → Behind} {old new : X} {r : Result T E} {text other : List ℕ} → text ≡ other

@@ -6,7 +6,7 @@ use Rattle.std.proofs.lemmas.Option.{same_Some, none-some, slice_get_within, sli
 use Rattle.op_table.specs.declared.kinds.OpKind.{OpKind}
 use Rattle.op_table.specs.Clock.{Timed}
 use Rattle.op_cells.specs.declared.cells.Done.{Done}
-use Rattle.claim_core.specs.Program.{ProgramData}
+use Rattle.qccd_program.specs.Program.{ProgramData}
 use Rattle.tracer.specs.Order.{done_of, ordered}
 use Rattle.tracer.specs.TimeOrder.{time_order}
 use Rattle.tracer.proofs.Listed.{Row, listed-numbers}

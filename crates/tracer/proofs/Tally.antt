@@ -9,8 +9,8 @@ use Rattle.std.proofs.Math.Seq.{take-suc}
 use Rattle.op_table.specs.declared.kinds.OpKind.{OpKind}
 use Rattle.op_table.specs.Clock.{Timed, timed}
 use Rattle.op_table.proofs.Counts.{count_by-cons, count_by-map}
-use Rattle.claim_core.specs.Program.{ProgramData}
-use Rattle.claim_core.proofs.Tables.{get_mapped}
+use Rattle.qccd_program.specs.Program.{ProgramData}
+use Rattle.qccd_program.proofs.Tables.{get_mapped}
 use Rattle.tracer.specs.Report.{column_of}
 use Rattle.tracer.specs.Counted.{Tallied, in_column}
 use Rattle.tracer.specs.TimeOrder.{listed_ops, time_order}

@@ -5,7 +5,7 @@ use Rattle.qccd_base.specs.Names.{ion, trap}
 use Rattle.qccd_circuit.specs.Example.{h_on, cx_on}
 use Rattle.qccd_machine.specs.Preset.{single}
 use Rattle.op_table.specs.declared.kinds.OpKind.TheVariants.{Item}
-use Rattle.claim_core.specs.Program.{ProgramData}
+use Rattle.qccd_program.specs.Program.{ProgramData}
 
 -- a Hadamard gate on qubit 0 and a controlled not from it to qubit 1, in one trap
 abbrev pub bell : ProgramData

@@ -13,8 +13,8 @@ use Rattle.op_table.specs.declared.kinds.OpKind.{OpKind}
 use Rattle.op_table.specs.declared.kinds.OpKind.TheVariants.{Split, Move, Enter, Leave, Merge, Rot, GSwap, Item, Fence}
 use Rattle.op_table.specs.State.{IonPlace, InTrap, OnSegment, InJunction, Stand, State, is_at, is_on_segment, is_in_junction, ions_in, heat_of}
 use Rattle.op_table.specs.Clock.{Timed, timed}
-use Rattle.claim_core.specs.Program.{ProgramData, end_of}
-use Rattle.transport_asm.specs.OpText.{next_word, qubit_text, op_text}
+use Rattle.qccd_program.specs.Program.{ProgramData, end_of}
+use Rattle.op_text.specs.OpText.{next_word, qubit_text, op_text}
 use Rattle.tracer.specs.TimeOrder.{time_order}
 
 -- the words of a line, before the numbers that they name

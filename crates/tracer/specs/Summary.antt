@@ -2,7 +2,7 @@
 use Rattle.std.specs.Prelude.{ℕ, List, ◌++◌, length, codes}
 use Rattle.std.specs.List.{sum}
 use Rattle.qccd_base.specs.Line.{line}
-use Rattle.claim_core.specs.Program.{ProgramData, end_of}
+use Rattle.qccd_program.specs.Program.{ProgramData, end_of}
 use Rattle.tracer.specs.Report.{labelled, counts_line, last_finish}
 
 -- the sum of the heats of all traps at the end

@@ -7,8 +7,8 @@ use Rattle.qccd_base.specs.declared.names.End.TheVariants.{Left, Right}
 use Rattle.qccd_circuit.specs.Example.{h_on, cx_on, measure_into, reset_of, barrier_over}
 use Rattle.op_table.specs.declared.kinds.OpKind.{OpKind}
 use Rattle.op_table.specs.declared.kinds.OpKind.TheVariants.{Split, Move, Enter, Leave, Merge, Rot, GSwap, Item, Fence}
-use Rattle.claim_core.specs.Program.{ProgramData}
-use Rattle.claim_core.specs.Example.{two_gates_and_one, x_on}
+use Rattle.qccd_program.specs.Program.{ProgramData}
+use Rattle.qccd_program.specs.Example.{two_gates_and_one, x_on}
 
 -- the report of the claim's example
 abbrev pub ion_lines : List (List ℕ)

@@ -2,7 +2,7 @@
 
 ghost use Rattle.std.specs.Prelude.{◌≡◌, ◌<◌, ◌≤◌, ◌∷◌, [], ◌++◌, ℕ, List, decimal, flat_map, length, slice_get, Some};
 ghost use Rattle.op_table.specs.declared.kinds.OpKind.{OpKind};
-ghost use Rattle.transport_asm.specs.OpText.{next_word};
+ghost use Rattle.op_text.specs.OpText.{next_word};
 ghost use Rattle.std.specs.List.{enumerate_from};
 ghost use Rattle.qccd_io.specs.Sends.{Sends};
 ghost use Rattle.tracer.specs.Counted.{Tallied};

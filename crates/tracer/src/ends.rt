@@ -8,17 +8,17 @@ ghost use Rattle.op_table.specs.Act.{carry_in, heat_in};
 ghost use Rattle.op_table.specs.Contents.{content};
 ghost use Rattle.op_table.specs.State.{is_in_junction, is_on_segment};
 ghost use Rattle.op_cells.specs.Numbering.{IsThere};
-ghost use Rattle.claim_core.specs.AllCells.{AtEnd};
-ghost use Rattle.claim_core.specs.Program.{end_of};
-ghost use Rattle.transport_asm.specs.OpText.{next_word};
+ghost use Rattle.qccd_program.specs.AllCells.{AtEnd};
+ghost use Rattle.qccd_program.specs.Program.{end_of};
+ghost use Rattle.op_text.specs.OpText.{next_word};
 ghost use Rattle.tracer.specs.Report.{end_line, end_lines, junction_line, labelled, last_finish, pair_text, segment_line, side_text, stray_lines};
 ghost use Rattle.tracer.specs.Summary.{traps_heat};
 
-use claim_core::Program;
 use op_cells::{Cell, Cells, chain_in, index_of, rider_in};
 use op_table::{Carry, Content, Entry, Rider};
 use qccd_base::{JuncId, Res, SegEnd, SegId, TrapId};
 use qccd_io::{Failed, Piece, Sink, send};
+use qccd_program::Program;
 
 // What the resource holds at the end.
 fn held_at_end<'a>(program: &Program, cells: &'a Cells, r: Res) -> &'a Content

@@ -4,8 +4,8 @@ ghost use Rattle.std.specs.Prelude.{◌≡◌, ◌<◌, ◌≤◌, ◌++◌, IfO
 ghost use Rattle.std.specs.List.{enumerate_from};
 ghost use Rattle.qccd_base.specs.Line.{line};
 ghost use Rattle.qccd_io.specs.Sends.{Sends};
-ghost use Rattle.claim_core.specs.AllCells.{AtEnd};
-ghost use Rattle.transport_asm.specs.OpText.{next_word};
+ghost use Rattle.qccd_program.specs.AllCells.{AtEnd};
+ghost use Rattle.op_text.specs.OpText.{next_word};
 ghost use Rattle.tracer.specs.Counted.{Tallied};
 ghost use Rattle.tracer.specs.Order.{ordered};
 ghost use Rattle.tracer.specs.Report.{labelled, op_line, report_text, size_line, start_line};
@@ -17,13 +17,13 @@ use crate::counting::{count, counts_of, send_counts};
 use crate::ends::{last_finish, send_ends, traps_heat};
 use crate::fault::ReportFault;
 use crate::order::{order_in_place, time_order};
-use claim_core::Program;
 use op_cells::{Cells, Done};
 use op_table::Op;
+use op_text::{put_op, write_op};
 use qccd_base::{Ion, TrapId};
 use qccd_io::{Failed, Piece, Sink, send, send_labelled};
+use qccd_program::Program;
 use std::alloc::Global;
-use transport_asm::{put_op, write_op};
 
 // A line of a label and a number.
 fn send_total<S: Sink>(sink: &mut S, label: &[u8], n: u64) -> Result<(), Failed>

@@ -2,10 +2,10 @@
 
 ghost use Rattle.std.specs.Prelude.{◌≡◌, ◌≤◌, IfOk};
 ghost use Rattle.op_table.specs.Example.{pair};
-ghost use Rattle.claim_core.specs.Example.{exchanges, start_chains};
+ghost use Rattle.qccd_program.specs.Example.{exchanges, start_chains};
 
 use super::*;
-use claim_core::{Program, run_in_order};
+use qccd_program::{Program, run_in_order};
 use op_table::{Op, OpKind};
 use qccd_base::{End, Ion, IonList, Times, TrapId};
 use qccd_io::MemSink;

@@ -9,7 +9,7 @@ ghost use Rattle.tracer.specs.Scattered.{scattered};
 ghost use Rattle.tracer.specs.Summary.{summary_text};
 ghost use Rattle.tracer.specs.TimeOrder.{time_order};
 ghost use Rattle.tracer.specs.Transported.{by_qubits, gates_in_turn, ion_lines, lines, of_all_kinds, qubit_lines, timeless};
-ghost use Rattle.claim_core.specs.Example.{two_gates_and_one};
+ghost use Rattle.qccd_program.specs.Example.{two_gates_and_one};
 
 /// The report of the Bell pair on one trap, byte by byte.
 pub fn bell_pair()

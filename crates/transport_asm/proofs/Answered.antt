@@ -6,9 +6,9 @@ use Rattle.std.proofs.lemmas.List.{append-nil}
 use Rattle.qccd_base.specs.declared.names.End.{End}
 use Rattle.op_table.specs.declared.kinds.OpKind.{OpKind}
 use Rattle.op_table.specs.declared.kinds.OpKind.TheVariants.{Split, Move, Enter, Leave, Merge, Rot, GSwap, Item, Fence}
-use Rattle.transport_asm.specs.OpText.{op_text, next_word, trap_text, qubit_text, bit_text, operand_text, segment_text, end_text, junction_text, angles_text}
+use Rattle.op_text.specs.OpText.{op_text, next_word, trap_text, qubit_text, bit_text, operand_text, segment_text, end_text, junction_text, angles_text}
 use Rattle.transport_asm.specs.Lines.{Refusal, words_of, line_text}
-use Rattle.transport_asm.specs.Operations.{read_op, op_words}
+use Rattle.op_text.specs.Operations.{read_op, op_words}
 use Rattle.transport_asm.specs.Texts.{RawData, Spells, IsRefusedAt, read_text}
 use Rattle.transport_asm.proofs.Fitting.{FitsOp}
 use Rattle.transport_asm.proofs.LineLaws.{read_is, cut_again, line_text-words_of}

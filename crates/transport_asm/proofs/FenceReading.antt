@@ -8,16 +8,16 @@ use Rattle.qccd_circuit.specs.Item.{are_distinct}
 use Rattle.op_table.specs.Op.{are_ascending}
 use Rattle.op_table.specs.declared.kinds.OpKind.{OpKind}
 use Rattle.op_table.specs.declared.kinds.OpKind.TheVariants.{Fence}
-use Rattle.transport_asm.specs.declared.faults.AsmKind.{AsmKind}
-use Rattle.transport_asm.specs.declared.faults.AsmKind.TheVariants.{Word}
+use Rattle.op_text.specs.declared.kind.AsmKind.{AsmKind}
+use Rattle.op_text.specs.declared.kind.AsmKind.TheVariants.{Word}
 use Rattle.transport_asm.specs.declared.faults.OpFault.{OpFault}
 use Rattle.transport_asm.specs.declared.faults.OpFault.TheVariants.{Refused, NoMemory}
 use Rattle.transport_asm.specs.Cursor.{FailsAt}
 use Rattle.transport_asm.specs.Marks.{begins_trap, traps_at, traps_behind, when_distinct, some_qubits, fence_parts, is_below_first, fence_made}
-use Rattle.transport_asm.specs.Operations.{begins_with, qubits_at, parts_at, barrier_over, fence_at, is_right, keeping_rules, finished}
-use Rattle.transport_asm.specs.Shapes.{Reading, first_word, read_one, whole}
-use Rattle.transport_asm.specs.Slots.{number_slot, greatest, trap_slot}
-use Rattle.transport_asm.specs.Steps.{◌>>=◌}
+use Rattle.op_text.specs.Operations.{begins_with, qubits_at, parts_at, barrier_over, fence_at, is_right, keeping_rules, finished}
+use Rattle.op_text.specs.Shapes.{Reading, first_word, read_one, whole}
+use Rattle.op_text.specs.Slots.{number_slot, greatest, trap_slot}
+use Rattle.op_text.specs.Steps.{◌>>=◌}
 use Rattle.transport_asm.proofs.ItemLaws.{qubits_take}
 use Rattle.transport_asm.proofs.SlotLaws.{bind_ok, ok_is}
 

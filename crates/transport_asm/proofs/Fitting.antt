@@ -11,9 +11,9 @@ use Rattle.qccd_base.specs.declared.names.End.{End}
 use Rattle.qccd_circuit.specs.Item.{is_word}
 use Rattle.op_table.specs.declared.kinds.OpKind.{OpKind}
 use Rattle.op_table.specs.declared.kinds.OpKind.TheVariants.{Split, Move, Enter, Leave, Merge, Rot, GSwap, Item, Fence}
-use Rattle.transport_asm.specs.OpText.{operand_text, bit_text}
-use Rattle.transport_asm.specs.Slots.{Gate, greatest, has_angle_form, is_long_angle}
-use Rattle.transport_asm.specs.Operations.{Tail, item_op, barrier_over, is_right}
+use Rattle.op_text.specs.OpText.{operand_text, bit_text}
+use Rattle.op_text.specs.Slots.{Gate, greatest, has_angle_form, is_long_angle}
+use Rattle.op_text.specs.Operations.{Tail, item_op, barrier_over, is_right}
 use Rattle.transport_asm.specs.Texts.{RawData}
 
 -- what a gate keeps to that has a word

@@ -10,14 +10,14 @@ use Rattle.std.proofs.lemmas.Fmt.{digits_decimal}
 use Rattle.qccd_base.specs.declared.names.Qubit.{Qubit}
 use Rattle.qccd_base.specs.Names.{qubit}
 use Rattle.qccd_circuit.specs.Item.{is_word, is_name_byte, is_angle_byte}
-use Rattle.transport_asm.specs.OpText.{angles_text, operand_text}
+use Rattle.op_text.specs.OpText.{angles_text, operand_text}
 use Rattle.transport_asm.proofs.Fitting.{FitsGate, FitsOperand}
-use Rattle.transport_asm.specs.declared.faults.AsmKind.{AsmKind}
-use Rattle.transport_asm.specs.declared.faults.AsmKind.TheVariants.{Word, Number, TooMany}
-use Rattle.transport_asm.specs.Steps.{◌>>=◌, judged}
-use Rattle.transport_asm.specs.Slots.{Slot, Gate, before_parenthesis, behind_parenthesis, has_parenthesis, is_closed, without_last, angles_in, has_angle_form, has_gate_form, is_long_angle, passes_gate_limit, gate_checks, gate_slot, are_digits, number_in, is_outside, operand_form, operand_numbers, number_slot, operand_of_parts, at_signs, operand_slot}
+use Rattle.op_text.specs.declared.kind.AsmKind.{AsmKind}
+use Rattle.op_text.specs.declared.kind.AsmKind.TheVariants.{Word, Number, TooMany}
+use Rattle.op_text.specs.Steps.{◌>>=◌, judged}
+use Rattle.op_text.specs.Slots.{Slot, Gate, before_parenthesis, behind_parenthesis, has_parenthesis, is_closed, without_last, angles_in, has_angle_form, has_gate_form, is_long_angle, passes_gate_limit, gate_checks, gate_slot, are_digits, number_in, is_outside, operand_form, operand_numbers, number_slot, operand_of_parts, at_signs, operand_slot}
 use Rattle.transport_asm.proofs.Numbers.{own, number_takes, two_pass, inside, neither, decimal-number_in, are_digits-decimal, is_outside-decimal, number_in-decimal}
-use Rattle.transport_asm.specs.Shapes.{is_end}
+use Rattle.op_text.specs.Shapes.{is_end}
 use Rattle.transport_asm.proofs.Cut.{lacks, EachLacks, split-join, has_word}
 use Rattle.transport_asm.proofs.SlotLaws.{bind_ok, ok_is, is_plain, is_plain_byte, IsSlot, plain_digits}
 

@@ -8,12 +8,12 @@ use Rattle.std.proofs.lemmas.List.Splits.{join_with_byte-slice_split}
 use denote.Ref.{Bor}
 use Rattle.qccd_base.specs.declared.names.Qubit.{Qubit}
 use Rattle.qccd_circuit.specs.Item.{is_word}
-use Rattle.transport_asm.specs.declared.faults.AsmKind.{AsmKind}
-use Rattle.transport_asm.specs.declared.faults.AsmKind.TheVariants.{Word, TooMany}
+use Rattle.op_text.specs.declared.kind.AsmKind.{AsmKind}
+use Rattle.op_text.specs.declared.kind.AsmKind.TheVariants.{Word, TooMany}
 use Rattle.transport_asm.specs.Cursor.{parts_left}
 use Rattle.transport_asm.specs.Parts.{angles_left}
-use Rattle.transport_asm.specs.Steps.{judged}
-use Rattle.transport_asm.specs.Slots.{Gate, before_parenthesis, behind_parenthesis, has_parenthesis, is_closed, without_last, angles_in, has_angle_form, is_long_angle, gate_slot, passes_gate_limit, has_gate_form, are_digits, has_letter, operand_numbers, operand_of_parts}
+use Rattle.op_text.specs.Steps.{judged}
+use Rattle.op_text.specs.Slots.{Gate, before_parenthesis, behind_parenthesis, has_parenthesis, is_closed, without_last, angles_in, has_angle_form, is_long_angle, gate_slot, passes_gate_limit, has_gate_form, are_digits, has_letter, operand_numbers, operand_of_parts}
 use Rattle.transport_asm.proofs.Cut.{split-join}
 use Rattle.transport_asm.proofs.GateLaws.{lacks_all}
 use Rattle.std.specs.Char.{is_ascii_digit}

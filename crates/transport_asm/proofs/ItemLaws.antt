@@ -11,14 +11,14 @@ use Rattle.qccd_base.specs.Names.{qubit, bit, trap}
 use Rattle.qccd_circuit.specs.Item.{ItemData}
 use Rattle.op_table.specs.declared.kinds.OpKind.{OpKind}
 use Rattle.op_table.specs.declared.kinds.OpKind.TheVariants.{Split, Move, Enter, Leave, Merge, Rot, GSwap, Item, Fence}
-use Rattle.transport_asm.specs.OpText.{trap_text, qubit_text, bit_text, operand_text, angles_text}
+use Rattle.op_text.specs.OpText.{trap_text, qubit_text, bit_text, operand_text, angles_text}
 use Rattle.transport_asm.proofs.Fitting.{FitsGate, FitsOperand, no_tail, bit_tail, second_tail, tail_words, FitsMore, FitsTail, Head, FitsHead, FitsItem, FitsQubit, FitsTrap, FitsFence}
-use Rattle.transport_asm.specs.declared.faults.AsmKind.{AsmKind}
-use Rattle.transport_asm.specs.declared.faults.AsmKind.TheVariants.{Word, Number, NotBuilt}
-use Rattle.transport_asm.specs.Steps.{◌>>=◌, judged}
-use Rattle.transport_asm.specs.Slots.{Slot, Gate, number_slot, greatest, trap_slot, qubit_slot, bit_slot, operand_slot, gate_slot}
-use Rattle.transport_asm.specs.Shapes.{Reading, Shape, first_word, read_one, one, ◌▸◌}
-use Rattle.transport_asm.specs.Operations.{Tail, is_if, ends_item, second_at, tail_at, item_shape, item_op, item_at, qubits_at, begins_with, parts_at, barrier_over, fence_at, op_words}
+use Rattle.op_text.specs.declared.kind.AsmKind.{AsmKind}
+use Rattle.op_text.specs.declared.kind.AsmKind.TheVariants.{Word, Number, NotBuilt}
+use Rattle.op_text.specs.Steps.{◌>>=◌, judged}
+use Rattle.op_text.specs.Slots.{Slot, Gate, number_slot, greatest, trap_slot, qubit_slot, bit_slot, operand_slot, gate_slot}
+use Rattle.op_text.specs.Shapes.{Reading, Shape, first_word, read_one, one, ◌▸◌}
+use Rattle.op_text.specs.Operations.{Tail, is_if, ends_item, second_at, tail_at, item_shape, item_op, item_at, qubits_at, begins_with, parts_at, barrier_over, fence_at, op_words}
 use Rattle.transport_asm.proofs.SlotLaws.{bind_ok, ok_is, IsSlot, IsShape, EachPlain, is_plain, one_law, both_law, number_law, trap_law, letter_law}
 use Rattle.transport_asm.proofs.GateLaws.{gate_law, operand_law}
 

@@ -10,10 +10,10 @@ use Rattle.qccd_base.specs.declared.names.Bit.{Bit}
 use Rattle.qccd_circuit.specs.Item.{are_distinct}
 use Rattle.op_table.specs.declared.kinds.OpKind.{OpKind}
 use Rattle.transport_asm.specs.Parts.{angles_left}
-use Rattle.transport_asm.specs.Shapes.{is_end, whole}
-use Rattle.transport_asm.specs.Slots.{Gate}
-use Rattle.transport_asm.specs.Steps.{◌>>=◌}
-use Rattle.transport_asm.specs.Operations.{Tail, item_op, item_at, fence_at, is_right, keeping_rules, finished}
+use Rattle.op_text.specs.Shapes.{is_end, whole}
+use Rattle.op_text.specs.Slots.{Gate}
+use Rattle.op_text.specs.Steps.{◌>>=◌}
+use Rattle.op_text.specs.Operations.{Tail, item_op, item_at, fence_at, is_right, keeping_rules, finished}
 use Rattle.transport_asm.specs.Writable.{IsWritable}
 use Rattle.transport_asm.proofs.Cut.{has_word}
 use Rattle.transport_asm.proofs.Fitting.{Head, FitsItem, FitsFence}

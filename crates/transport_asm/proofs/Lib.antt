@@ -17,5 +17,4 @@ pub mod Parts
 pub mod Loop
 pub mod LineReading
 pub mod Answered
-pub mod Sending
 pub mod ProgramWriting

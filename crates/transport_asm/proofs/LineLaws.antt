@@ -6,9 +6,9 @@ use Rattle.std.proofs.lemmas.List.Splits.{join_with_byte-slice_split, slice_spli
 use Rattle.std.proofs.lemmas.List.{append-nil}
 use Rattle.std.proofs.lemmas.List.Elements.{All-from_recursion}
 use Rattle.std.proofs.lemmas.List.Concat.{flat_map-cons}
-use Rattle.transport_asm.specs.declared.faults.AsmKind.{AsmKind}
-use Rattle.transport_asm.specs.declared.faults.AsmKind.TheVariants.{Count}
-use Rattle.transport_asm.specs.Steps.{◌>>=◌}
+use Rattle.op_text.specs.declared.kind.AsmKind.{AsmKind}
+use Rattle.op_text.specs.declared.kind.AsmKind.TheVariants.{Count}
+use Rattle.op_text.specs.Steps.{◌>>=◌}
 use Rattle.transport_asm.specs.Lines.{words_of, Unread, Refusal, refused, Steps, told, line_in, line_at, numbered, ends_in, ended, line_text, lines_text, numbered_lines, all_of, Block, line_block, ◌▹◌, read_all}
 use Rattle.transport_asm.proofs.Cut.{lacks, EachLacks, All-lacks, split-join}
 use Rattle.transport_asm.proofs.SlotLaws.{bind_ok, is_plain_byte, is_plain, EachPlain}

@@ -3,12 +3,12 @@ use Rattle.std.proofs.Common.{◌≡◌, ℕ, zero, suc, ◌+◌, ◌-◌, ◌<�
 use Rattle.std.specs.List.{slice_split, onto_first}
 use Rattle.std.proofs.lemmas.List.{append-nil}
 use Rattle.qccd_base.specs.declared.names.Ion.{Ion}
-use Rattle.transport_asm.specs.declared.faults.AsmKind.{AsmKind}
-use Rattle.transport_asm.specs.declared.faults.AsmKind.TheVariants.{Count}
+use Rattle.op_text.specs.declared.kind.AsmKind.{AsmKind}
+use Rattle.op_text.specs.declared.kind.AsmKind.TheVariants.{Count}
 use Rattle.transport_asm.specs.declared.faults.AsmFault.{AsmFault}
 use Rattle.transport_asm.specs.declared.faults.AsmFault.TheVariants.{Refused, NoMemory}
-use Rattle.transport_asm.specs.Steps.{◌>>=◌}
-use Rattle.transport_asm.specs.Shapes.{is_end}
+use Rattle.op_text.specs.Steps.{◌>>=◌}
+use Rattle.op_text.specs.Shapes.{is_end}
 use Rattle.transport_asm.specs.Lines.{Unread, Refusal, refused, Steps, all_of, ends_in, ended}
 use Rattle.transport_asm.specs.LineCursor.{Fails, ion_next}
 use Rattle.transport_asm.specs.Texts.{RawData, ion_at, ions_at, program_block, value_of, raw_of, read_text}

@@ -1,10 +1,10 @@
 -- Reading lines one after the other, as a loop does.
 use Rattle.std.proofs.Common.{◌≡◌, ℕ, suc, ◌-◌, ◌+◌, ◌≤◌, ◌<◌, List, [], ◌∷◌, ◌++◌, Result, Ok, Err, refl, sym, ap, ◌∙◌, append_assoc, arith}
 use Rattle.std.proofs.lemmas.List.{append-nil}
-use Rattle.transport_asm.specs.declared.faults.AsmKind.{AsmKind}
+use Rattle.op_text.specs.declared.kind.AsmKind.{AsmKind}
 use Rattle.transport_asm.specs.declared.faults.AsmFault.{AsmFault}
 use Rattle.transport_asm.specs.declared.faults.AsmFault.TheVariants.{Refused, NoMemory}
-use Rattle.transport_asm.specs.Steps.{◌>>=◌}
+use Rattle.op_text.specs.Steps.{◌>>=◌}
 use Rattle.transport_asm.specs.Lines.{Unread, Refusal, refused, Steps, line_at, numbered}
 use Rattle.transport_asm.specs.LineCursor.{Fails}
 

@@ -9,7 +9,7 @@ use Rattle.std.proofs.Common.{inl, inr}
 use Rattle.std.specs.Prelude.{if◌then◌else◌, is_some, option_copied}
 use denote.Ref.{Bor}
 use Rattle.transport_asm.specs.Lines.{words_of}
-use Rattle.transport_asm.specs.Shapes.{is_end}
+use Rattle.op_text.specs.Shapes.{is_end}
 use Rattle.transport_asm.proofs.Cut.{has_word}
 use Rattle.std.proofs.lemmas.List.{append-nil}
 use Rattle.std.proofs.lemmas.Bool.{cases_Bool, ltb-true, ne_eqb}
@@ -17,11 +17,11 @@ use Rattle.std.proofs.lemmas.Bool.Decides.{eqb_tells}
 use Rattle.qccd_base.specs.Names.{qubit}
 use Rattle.qccd_base.specs.declared.names.Qubit.{Qubit}
 use Rattle.qccd_circuit.specs.Item.{are_distinct, has_qubit}
-use Rattle.transport_asm.specs.declared.faults.AsmKind.{AsmKind}
-use Rattle.transport_asm.specs.Steps.{◌>>=◌}
-use Rattle.transport_asm.specs.Slots.{qubit_slot}
-use Rattle.transport_asm.specs.Shapes.{Reading, read_one}
-use Rattle.transport_asm.specs.Operations.{qubits_at}
+use Rattle.op_text.specs.declared.kind.AsmKind.{AsmKind}
+use Rattle.op_text.specs.Steps.{◌>>=◌}
+use Rattle.op_text.specs.Slots.{qubit_slot}
+use Rattle.op_text.specs.Shapes.{Reading, read_one}
+use Rattle.op_text.specs.Operations.{qubits_at}
 use Rattle.transport_asm.specs.Cursor.{words_left}
 use Rattle.transport_asm.specs.Marks.{AreMarked, IsKept, when_distinct, fence_qubits}
 use Rattle.transport_asm.proofs.SlotLaws.{bind_ok, ok_is}

@@ -7,10 +7,10 @@ use Rattle.std.specs.Str.Parse.{digits_value}
 use Rattle.std.proofs.lemmas.Str.Parse.{IsNumeralModel, numerals_by_value}
 use Rattle.std.proofs.lemmas.Fmt.{digits_decimal, digits_value-decimal, decimal-digits_value, decimal_digit, decimal_nonempty, first_decimal}
 use Rattle.std.proofs.lemmas.Bool.{cases_lt, ltb-true, ltb-false, le-ltb, and_parts, cases_Bool, ne_eqb}
-use Rattle.transport_asm.specs.declared.faults.AsmKind.{AsmKind}
-use Rattle.transport_asm.specs.declared.faults.AsmKind.TheVariants.{Word, Number, Count, NotBuilt, TooMany}
-use Rattle.transport_asm.specs.Steps.{Check, judged}
-use Rattle.transport_asm.specs.Slots.{are_digits, has_leading_zero, number_in, is_outside, number_checks, number_slot}
+use Rattle.op_text.specs.declared.kind.AsmKind.{AsmKind}
+use Rattle.op_text.specs.declared.kind.AsmKind.TheVariants.{Word, Number, Count, NotBuilt, TooMany}
+use Rattle.op_text.specs.Steps.{Check, judged}
+use Rattle.op_text.specs.Slots.{are_digits, has_leading_zero, number_in, is_outside, number_checks, number_slot}
 
 pub own : IsNumeralModel (λ ds. list_all is_ascii_digit ds ≡ true) (digits_value 10)
 own = numerals_by_value (λ ds. list_all is_ascii_digit ds ≡ true) (search rules)

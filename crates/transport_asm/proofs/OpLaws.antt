@@ -10,12 +10,12 @@ use Rattle.qccd_base.specs.declared.names.End.{End}
 use Rattle.op_table.specs.declared.kinds.OpKind.{OpKind}
 use Rattle.op_table.specs.declared.kinds.OpKind.TheVariants.{Split, Move, Enter, Leave, Merge, Rot, GSwap, Item, Fence}
 use Rattle.transport_asm.proofs.Fitting.{FitsItem, FitsFence, FitsTrap, FitsSegment, FitsJunction, FitsEnd, FitsPosition, FitsWords, FitsOp}
-use Rattle.transport_asm.specs.declared.faults.AsmKind.{AsmKind}
-use Rattle.transport_asm.specs.declared.faults.AsmKind.TheVariants.{Word, Number}
-use Rattle.transport_asm.specs.Steps.{◌>>=◌, judged}
-use Rattle.transport_asm.specs.Slots.{Slot, trap_slot, segment_slot, junction_slot, end_slot, number_slot}
-use Rattle.transport_asm.specs.Shapes.{Reading, Shape, first_word, one, ◌▸◌, as_value, whole}
-use Rattle.transport_asm.specs.Operations.{split_shape, move_shape, enter_shape, leave_shape, merge_shape, rot_shape, gswap_shape, position_slot, item_at, fence_at, Row, row, op_rows, read_row, op_at, op_words, is_right, keeping_rules, read_op}
+use Rattle.op_text.specs.declared.kind.AsmKind.{AsmKind}
+use Rattle.op_text.specs.declared.kind.AsmKind.TheVariants.{Word, Number}
+use Rattle.op_text.specs.Steps.{◌>>=◌, judged}
+use Rattle.op_text.specs.Slots.{Slot, trap_slot, segment_slot, junction_slot, end_slot, number_slot}
+use Rattle.op_text.specs.Shapes.{Reading, Shape, first_word, one, ◌▸◌, as_value, whole}
+use Rattle.op_text.specs.Operations.{split_shape, move_shape, enter_shape, leave_shape, merge_shape, rot_shape, gswap_shape, position_slot, item_at, fence_at, Row, row, op_rows, read_row, op_at, op_words, is_right, keeping_rules, read_op}
 use Rattle.transport_asm.proofs.SlotLaws.{bind_ok, ok_is, IsSlot, IsShape, one_law, both_law, number_law, trap_law, segment_law, junction_law, end_law, EachPlain}
 use Rattle.transport_asm.proofs.ItemLaws.{item_takes, item_again, item_plain, fence_takes, fence_again, fence_plain}
 use Rattle.transport_asm.proofs.LineLaws.{IsLine}

@@ -4,11 +4,11 @@ use Rattle.std.specs.Prelude.{bytes_eq, take}
 use Rattle.std.proofs.lemmas.Slice.Eq.{bytes_eq-Decides}
 use Rattle.op_table.specs.declared.kinds.OpKind.{OpKind}
 use Rattle.op_table.specs.declared.kinds.OpKind.TheVariants.{Split, Move, Enter, Leave, Merge, Rot, GSwap, Item, Fence}
-use Rattle.transport_asm.specs.declared.faults.AsmKind.{AsmKind}
-use Rattle.transport_asm.specs.declared.faults.AsmKind.TheVariants.{Word}
-use Rattle.transport_asm.specs.Steps.{◌>>=◌}
-use Rattle.transport_asm.specs.Shapes.{Shape, Reading, whole}
-use Rattle.transport_asm.specs.Operations.{Row, row, op_rows, read_row, split_shape, move_shape, enter_shape, leave_shape, merge_shape, rot_shape, gswap_shape, item_at, fence_at, is_right, keeping_rules, finished, plain_right, plain_at, read_op}
+use Rattle.op_text.specs.declared.kind.AsmKind.{AsmKind}
+use Rattle.op_text.specs.declared.kind.AsmKind.TheVariants.{Word}
+use Rattle.op_text.specs.Steps.{◌>>=◌}
+use Rattle.op_text.specs.Shapes.{Shape, Reading, whole}
+use Rattle.op_text.specs.Operations.{Row, row, op_rows, read_row, split_shape, move_shape, enter_shape, leave_shape, merge_shape, rot_shape, gswap_shape, item_at, fence_at, is_right, keeping_rules, finished, plain_right, plain_at, read_op}
 use Rattle.std.specs.Prelude.{if◌then◌else◌}
 use Rattle.std.specs.List.{AllByRecursion}
 use Rattle.op_table.specs.Op.{IsOp}

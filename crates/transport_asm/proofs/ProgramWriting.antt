@@ -12,14 +12,14 @@ use Rattle.qccd_io.specs.Sink.{Behind}
 use Rattle.qccd_io.proofs.Sent.{sent_next, sent_short}
 use Rattle.op_table.specs.declared.kinds.OpKind.{OpKind}
 use Rattle.op_table.specs.declared.kinds.OpKind.TheVariants.{Split, Move, Enter, Leave, Merge, Rot, GSwap, Item, Fence}
-use Rattle.claim_core.specs.Program.{ProgramData}
-use Rattle.transport_asm.specs.OpText.{op_text, trap_text, next_word}
-use Rattle.transport_asm.specs.Operations.{op_words}
+use Rattle.qccd_program.specs.Program.{ProgramData}
+use Rattle.op_text.specs.OpText.{op_text, trap_text, next_word}
+use Rattle.op_text.specs.Operations.{op_words}
 use Rattle.transport_asm.specs.Lines.{line_text, lines_text, numbered_lines}
 use Rattle.transport_asm.specs.Texts.{chain_words, op_line_words, size_words, end_words, raw_text}
 use Rattle.transport_asm.specs.ProgramText.{program_text, front_text, back_text, numbered_texts, counts_text, traps_head, ions_text, chain_text, ops_head, op_line_text}
 use Rattle.transport_asm.proofs.Answered.{op_text-line}
-use Rattle.transport_asm.proofs.Sending.{join_rest}
+use Rattle.op_text.proofs.Sending.{join_rest}
 
 -- ---- texts with numbers
 

@@ -15,8 +15,8 @@ use Rattle.qccd_circuit.specs.declared.kinds.Cond.{Cond}
 use Rattle.op_table.specs.Op.{IsOp, are_ascending}
 use Rattle.op_table.specs.declared.kinds.OpKind.{OpKind}
 use Rattle.op_table.specs.declared.kinds.OpKind.TheVariants.{Split, Move, Enter, Leave, Merge, Rot, GSwap, Item, Fence}
-use Rattle.transport_asm.specs.Slots.{Gate, greatest, has_angle_form, is_long_angle}
-use Rattle.transport_asm.specs.Operations.{Tail, kind_of, item_op, barrier_over, item_is_right, is_right}
+use Rattle.op_text.specs.Slots.{Gate, greatest, has_angle_form, is_long_angle}
+use Rattle.op_text.specs.Operations.{Tail, kind_of, item_op, barrier_over, item_is_right, is_right}
 use Rattle.transport_asm.specs.Texts.{RawData}
 use Rattle.transport_asm.specs.Writable.{KeepsLimits, IsWritable, IsWritableChain, IsWritableRaw}
 use Rattle.transport_asm.proofs.Fitting.{FitsGate, FitsOperand, no_tail, bit_tail, second_tail, FitsMore, FitsTail, Head, FitsHead, FitsItem, FitsFence, FitsTrap, FitsQubit, FitsWords, FitsOp, FitsIon, FitsChain, FitsRaw}

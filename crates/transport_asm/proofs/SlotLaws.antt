@@ -13,12 +13,12 @@ use Rattle.qccd_base.specs.declared.names.JuncId.{JuncId}
 use Rattle.qccd_base.specs.declared.names.End.{End}
 use Rattle.qccd_base.specs.declared.names.End.TheVariants.{Left, Right}
 use Rattle.qccd_base.specs.Names.{trap, segment, junction}
-use Rattle.transport_asm.specs.OpText.{end_text}
-use Rattle.transport_asm.specs.declared.faults.AsmKind.{AsmKind}
-use Rattle.transport_asm.specs.declared.faults.AsmKind.TheVariants.{Word, Number}
-use Rattle.transport_asm.specs.Steps.{◌>>=◌, judged}
-use Rattle.transport_asm.specs.Slots.{Slot, are_digits, number_in, is_outside, number_slot, has_letter, letter_checks, letter_value, lettered, trap_slot, segment_slot, junction_slot, end_slot, end_in}
-use Rattle.transport_asm.specs.Shapes.{Reading, Shape, first_word, one, ◌▸◌}
+use Rattle.op_text.specs.OpText.{end_text}
+use Rattle.op_text.specs.declared.kind.AsmKind.{AsmKind}
+use Rattle.op_text.specs.declared.kind.AsmKind.TheVariants.{Word, Number}
+use Rattle.op_text.specs.Steps.{◌>>=◌, judged}
+use Rattle.op_text.specs.Slots.{Slot, are_digits, number_in, is_outside, number_slot, has_letter, letter_checks, letter_value, lettered, trap_slot, segment_slot, junction_slot, end_slot, end_in}
+use Rattle.op_text.specs.Shapes.{Reading, Shape, first_word, one, ◌▸◌}
 use Rattle.transport_asm.proofs.Numbers.{own, two_pass, inside, decimal-number_in, number_takes, number_again, are_digits-decimal, is_outside-decimal, number_in-decimal}
 
 -- ---- steps

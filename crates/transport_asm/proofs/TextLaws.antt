@@ -10,12 +10,12 @@ use Rattle.qccd_base.specs.declared.names.Ion.{Ion}
 use Rattle.qccd_base.specs.Names.{ion, trap}
 use Rattle.op_table.specs.declared.kinds.OpKind.{OpKind}
 use Rattle.transport_asm.proofs.Fitting.{FitsOp, FitsIon, FitsChain, FitsRaw}
-use Rattle.transport_asm.specs.declared.faults.AsmKind.{AsmKind}
-use Rattle.transport_asm.specs.declared.faults.AsmKind.TheVariants.{Header, Word, Number, Count, NotBuilt, TooMany}
-use Rattle.transport_asm.specs.Steps.{◌>>=◌, judged}
-use Rattle.transport_asm.specs.Slots.{Slot, are_digits, number_in, is_outside, greatest, fixed_checks, fixed_slot, up_to, size_slot, next_only, next_slot, lettered, next_trap_slot, number_slot}
-use Rattle.transport_asm.specs.Shapes.{Reading, Shape, first_word, read_one, one, ◌▸◌, is_end, whole, read_line}
-use Rattle.transport_asm.specs.Operations.{read_op, op_words}
+use Rattle.op_text.specs.declared.kind.AsmKind.{AsmKind}
+use Rattle.op_text.specs.declared.kind.AsmKind.TheVariants.{Header, Word, Number, Count, NotBuilt, TooMany}
+use Rattle.op_text.specs.Steps.{◌>>=◌, judged}
+use Rattle.op_text.specs.Slots.{Slot, are_digits, number_in, is_outside, greatest, fixed_checks, fixed_slot, up_to, size_slot, next_only, next_slot, lettered, next_trap_slot, number_slot}
+use Rattle.op_text.specs.Shapes.{Reading, Shape, first_word, read_one, one, ◌▸◌, is_end, whole, read_line}
+use Rattle.op_text.specs.Operations.{read_op, op_words}
 use Rattle.transport_asm.specs.Lines.{words_of, Unread, Refusal, refused, Steps, line_at, numbered, ended, line_text, lines_text, numbered_lines, all_of, Block, line_block, ◌▹◌, read_all}
 use Rattle.transport_asm.specs.Texts.{RawData, first_line, header_checks, size_line, where_room, ion_at, ions_at, chain_line, op_line, end_line, read_text, size_words, size, read_counted, counted, chain_words, op_line_words, version_words, end_words, program_block, raw_of, value_of, raw_text}
 use Rattle.transport_asm.proofs.Numbers.{own, inside, number_takes, number_again, decimal-number_in, are_digits-decimal, is_outside-decimal, number_in-decimal}

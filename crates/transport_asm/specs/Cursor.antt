@@ -1,7 +1,7 @@
 -- What is left of a line while its words are read, and what the functions that read words answer.
 use Rattle.std.specs.Prelude.{◌≡◌, ◌==◌, ℕ, ◌+◌, List, [], length, Option, Some, None, Result, Ok, Err}
 use Rattle.std.specs.List.{slice_split}
-use Rattle.transport_asm.specs.declared.faults.AsmKind.{AsmKind}
+use Rattle.op_text.specs.declared.kind.AsmKind.{AsmKind}
 use Rattle.transport_asm.specs.declared.faults.OpFault.{OpFault}
 use Rattle.transport_asm.specs.declared.faults.OpFault.TheVariants.{Refused, NoMemory}
 use Rattle.transport_asm.specs.Lines.{words_of}

@@ -1,4 +1,4 @@
--- A gate and texts that the worked examples speak of.
+-- Texts that the worked examples speak of.
 use Rattle.std.specs.Prelude.{ℕ, List, [], ◌∷◌, ◌++◌, codes, flat_map}
 use Rattle.qccd_base.specs.Line.{line}
 use Rattle.qccd_base.specs.Names.{ion, trap, segment}
@@ -8,10 +8,6 @@ use Rattle.qccd_circuit.specs.Item.{ItemData}
 use Rattle.op_table.specs.declared.kinds.OpKind.{OpKind}
 use Rattle.op_table.specs.declared.kinds.OpKind.TheVariants.{Split, Move, Merge, Rot, Item}
 use Rattle.transport_asm.specs.Texts.{RawData}
-
--- a gate with three angles on a qubit
-abbrev pub turned : ℕ → ItemData
-turned q = record (h_on q) { name = codes "u3"; angles = codes "pi/2" ∷ codes "0" ∷ codes "-pi" ∷ [] }
 
 -- lines, each ended by a line feed
 abbrev pub text_of : List (List ℕ) → List ℕ

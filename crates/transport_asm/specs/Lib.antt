@@ -1,8 +1,3 @@
-pub mod OpText
-pub mod Steps
-pub mod Slots
-pub mod Shapes
-pub mod Operations
 pub mod Lines
 pub mod Texts
 pub mod Writable
@@ -12,4 +7,3 @@ pub mod Parts
 pub mod LineCursor
 pub mod ProgramText
 pub mod Example
-pub mod KindText

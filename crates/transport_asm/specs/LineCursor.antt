@@ -7,8 +7,8 @@ use Rattle.transport_asm.specs.declared.faults.AsmFault.{AsmFault}
 use Rattle.transport_asm.specs.declared.faults.AsmFault.TheVariants.{Refused, NoMemory}
 use Rattle.transport_asm.specs.declared.programs.RawProgram.{RawProgram}
 use Rattle.qccd_base.specs.declared.names.Ion.{Ion}
-use Rattle.transport_asm.specs.Steps.{◌>>=◌}
-use Rattle.transport_asm.specs.Shapes.{Reading, first_word}
+use Rattle.op_text.specs.Steps.{◌>>=◌}
+use Rattle.op_text.specs.Shapes.{Reading, first_word}
 use Rattle.transport_asm.specs.Texts.{RawData, ion_at}
 use Rattle.transport_asm.specs.Lines.{Unread, Refusal, refused}
 

@@ -1,9 +1,9 @@
 -- A text as lines, and a line as words.
 use Rattle.std.specs.Prelude.{ℕ, zero, suc, ◌+◌, List, [], ◌∷◌, ◌++◌, ◌==◌, Option, Some, None, Result, Ok, Err}
 use Rattle.std.specs.List.{slice_split, join_with_byte, flat_map}
-use Rattle.transport_asm.specs.declared.faults.AsmKind.{AsmKind}
-use Rattle.transport_asm.specs.declared.faults.AsmKind.TheVariants.{Count}
-use Rattle.transport_asm.specs.Steps.{◌>>=◌}
+use Rattle.op_text.specs.declared.kind.AsmKind.{AsmKind}
+use Rattle.op_text.specs.declared.kind.AsmKind.TheVariants.{Count}
+use Rattle.op_text.specs.Steps.{◌>>=◌}
 
 -- the words of a line
 abbrev pub words_of : List ℕ → List (List ℕ)

@@ -5,13 +5,13 @@ use Rattle.std.specs.Ordering.{nat_cmp}
 use Rattle.qccd_base.specs.Names.{qubit}
 use Rattle.qccd_base.specs.declared.names.Qubit.{Qubit}
 use Rattle.qccd_circuit.specs.Item.{are_distinct, has_qubit}
-use Rattle.transport_asm.specs.declared.faults.AsmKind.{AsmKind}
-use Rattle.transport_asm.specs.Steps.{◌>>=◌}
-use Rattle.transport_asm.specs.declared.faults.AsmKind.TheVariants.{Word}
+use Rattle.op_text.specs.declared.kind.AsmKind.{AsmKind}
+use Rattle.op_text.specs.Steps.{◌>>=◌}
+use Rattle.op_text.specs.declared.kind.AsmKind.TheVariants.{Word}
 use Rattle.qccd_base.specs.declared.names.TrapId.{TrapId}
-use Rattle.transport_asm.specs.Slots.{greatest, number_slot, trap_slot}
-use Rattle.transport_asm.specs.Shapes.{Reading, read_one}
-use Rattle.transport_asm.specs.Operations.{begins_with, barrier_over, qubits_at}
+use Rattle.op_text.specs.Slots.{greatest, number_slot, trap_slot}
+use Rattle.op_text.specs.Shapes.{Reading, read_one}
+use Rattle.op_text.specs.Operations.{begins_with, barrier_over, qubits_at}
 use Rattle.op_table.specs.Op.{are_ascending}
 use Rattle.op_table.specs.declared.kinds.OpKind.{OpKind}
 use Rattle.op_table.specs.declared.kinds.OpKind.TheVariants.{Fence}

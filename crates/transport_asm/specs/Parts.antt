@@ -5,8 +5,8 @@ use Rattle.transport_asm.specs.declared.items.HeadWords.{HeadWords}
 use Rattle.transport_asm.specs.declared.items.TailWords.{TailWords}
 use Rattle.qccd_base.specs.declared.names.TrapId.{TrapId}
 use Rattle.qccd_base.specs.declared.names.Qubit.{Qubit}
-use Rattle.transport_asm.specs.Slots.{Gate}
-use Rattle.transport_asm.specs.Operations.{Tail}
+use Rattle.op_text.specs.Slots.{Gate}
+use Rattle.op_text.specs.Operations.{Tail}
 use Rattle.transport_asm.specs.Cursor.{parts_left}
 
 -- the angles of a gate, between commas

@@ -2,8 +2,8 @@
 use Rattle.std.specs.Prelude.{ℕ, ◌+◌, List, [], ◌∷◌, ◌++◌, codes, decimal, flat_map, length}
 use Rattle.qccd_base.specs.declared.names.Ion.{Ion}
 use Rattle.op_table.specs.declared.kinds.OpKind.{OpKind}
-use Rattle.claim_core.specs.Program.{ProgramData}
-use Rattle.transport_asm.specs.OpText.{op_text, next_word}
+use Rattle.qccd_program.specs.Program.{ProgramData}
+use Rattle.op_text.specs.OpText.{op_text, next_word}
 use Rattle.transport_asm.specs.Texts.{RawData, raw_text}
 
 -- what a program's text spells: its numbers, start chains and operations

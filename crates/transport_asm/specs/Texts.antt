@@ -1,16 +1,16 @@
 -- Program texts.
 use Rattle.std.specs.Prelude.{◌≡◌, ℕ, zero, suc, ◌+◌, ◌-◌, Bool, true, false, ◌&&◌, ◌||◌, not, ◌==◌, nat_lt, List, [], ◌∷◌, ◌++◌, map, length, take, codes, decimal, bytes_eq, Result, Ok, Err, if◌then◌else◌}
 use Rattle.qccd_base.specs.Names.{ion, trap}
-use Rattle.transport_asm.specs.OpText.{trap_text}
+use Rattle.op_text.specs.OpText.{trap_text}
 use Rattle.qccd_base.specs.declared.names.Ion.{Ion}
 use Rattle.op_table.specs.declared.kinds.OpKind.{OpKind}
 use Rattle.op_table.specs.declared.kinds.OpKind.TheVariants.{Split, Move, Enter, Leave, Merge, Rot, GSwap, Item, Fence}
-use Rattle.transport_asm.specs.declared.faults.AsmKind.{AsmKind}
-use Rattle.transport_asm.specs.declared.faults.AsmKind.TheVariants.{Header, Word, Number, Count, NotBuilt, TooMany}
-use Rattle.transport_asm.specs.Steps.{◌>>=◌, Check, judged}
-use Rattle.transport_asm.specs.Slots.{Slot, are_digits, number_in, is_outside, greatest, number_slot, fixed_slot, size_slot, next_slot, next_trap_slot}
-use Rattle.transport_asm.specs.Shapes.{Reading, Shape, first_word, read_one, one, ◌▸◌, whole, read_line}
-use Rattle.transport_asm.specs.Operations.{read_op, op_words, read_row, op_rows}
+use Rattle.op_text.specs.declared.kind.AsmKind.{AsmKind}
+use Rattle.op_text.specs.declared.kind.AsmKind.TheVariants.{Header, Word, Number, Count, NotBuilt, TooMany}
+use Rattle.op_text.specs.Steps.{◌>>=◌, Check, judged}
+use Rattle.op_text.specs.Slots.{Slot, are_digits, number_in, is_outside, greatest, number_slot, fixed_slot, size_slot, next_slot, next_trap_slot}
+use Rattle.op_text.specs.Shapes.{Reading, Shape, first_word, read_one, one, ◌▸◌, whole, read_line}
+use Rattle.op_text.specs.Operations.{read_op, op_words, read_row, op_rows}
 use Rattle.transport_asm.specs.Lines.{Unread, Refusal, Steps, all_of, line_at, numbered, ended, lines_text, numbered_lines, Block, line_block, ◌▹◌, read_all}
 
 -- what a program text spells

@@ -6,7 +6,7 @@ use Rattle.op_table.specs.Op.{IsOp, KeepsItemRule}
 use Rattle.op_table.specs.Run.{item_in}
 use Rattle.op_table.specs.declared.kinds.OpKind.{OpKind}
 use Rattle.op_table.specs.declared.kinds.OpKind.TheVariants.{Split, Move, Enter, Leave, Merge, Rot, GSwap, Item, Fence}
-use Rattle.transport_asm.specs.Slots.{greatest}
+use Rattle.op_text.specs.Slots.{greatest}
 use Rattle.transport_asm.specs.Texts.{RawData}
 
 -- each number is within the limit of its word

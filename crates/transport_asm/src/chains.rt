@@ -4,12 +4,13 @@ ghost use Rattle.std.specs.Prelude.{◌≡◌, ◌-◌, ◌<◌, IfOk, option_co
 ghost use Rattle.transport_asm.specs.Cursor.{words_left, size_left, Gives, GivesOp};
 ghost use Rattle.transport_asm.specs.LineCursor.{unread, GivesAt, IsNumbered, ion_next};
 ghost use Rattle.transport_asm.specs.Lines.{words_of, line_at, numbered};
-ghost use Rattle.transport_asm.specs.Slots.{next_trap_slot};
+ghost use Rattle.op_text.specs.Slots.{next_trap_slot};
 ghost use Rattle.transport_asm.specs.Texts.{chain_line, ions_at};
 
-use crate::faults::{AsmFault, AsmKind, OpFault};
+use crate::faults::{AsmFault, OpFault};
 use crate::lines::{Lines, refused, take_line};
 use crate::words::{is_end, lettered, number, word};
+use op_text::AsmKind;
 use qccd_base::{Ion, IonList};
 use std::alloc::Global;
 

@@ -4,18 +4,19 @@ ghost use Rattle.std.specs.Prelude.{◌≡◌, Ok, ◌<◌, List, [], ◌∷◌,
 ghost use Rattle.qccd_base.specs.declared.names.Qubit.{Qubit};
 ghost use Rattle.transport_asm.specs.Cursor.{words_left, size_left, Gives, GivesOp};
 ghost use Rattle.transport_asm.specs.Marks.{IsKept, begins_trap, fence_qubits, traps_behind, some_qubits, fence_parts, is_below_first, fence_made};
-ghost use Rattle.transport_asm.specs.Shapes.{read_one};
-ghost use Rattle.transport_asm.specs.Operations.{begins_with, barrier_over, fence_at, finished};
+ghost use Rattle.op_text.specs.Shapes.{read_one};
+ghost use Rattle.op_text.specs.Operations.{begins_with, barrier_over, fence_at, finished};
 ghost use Rattle.op_table.specs.Op.{are_ascending, KeepsItemRule};
 ghost use Rattle.op_table.specs.declared.kinds.OpKind.{OpKind};
 ghost use Rattle.op_table.specs.declared.kinds.OpKind.TheVariants.{Fence};
-ghost use Rattle.transport_asm.specs.Slots.{qubit_slot};
+ghost use Rattle.op_text.specs.Slots.{qubit_slot};
 
-use crate::faults::{AsmKind, OpFault};
+use crate::faults::OpFault;
 use crate::items::number_at;
 use crate::shapes::trap_at;
 use crate::words::{cut, is_end, lettered, word};
 use op_table::OpKind;
+use op_text::AsmKind;
 use qccd_base::{BitList, NoMemory, Qubit, QubitList, TrapId, TrapList};
 use qccd_circuit::{AngleList, Item, ItemKind, Name};
 use std::alloc::{AllocError, Global};

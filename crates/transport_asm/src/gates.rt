@@ -5,11 +5,11 @@ ghost use Rattle.std.specs.List.{list_all, list_any};
 ghost use Rattle.qccd_circuit.specs.Item.{is_word, is_angle_byte};
 ghost use Rattle.transport_asm.specs.Cursor.{words_left, Gives};
 ghost use Rattle.transport_asm.specs.Parts.{angles_left, gate_of};
-ghost use Rattle.transport_asm.specs.Shapes.{read_one};
-ghost use Rattle.transport_asm.specs.Slots.{before_parenthesis, behind_parenthesis, has_parenthesis, is_closed, without_last, is_long_angle, has_angle_form, has_letter, gate_slot, operand_numbers, operand_of_parts, operand_slot};
+ghost use Rattle.op_text.specs.Shapes.{read_one};
+ghost use Rattle.op_text.specs.Slots.{before_parenthesis, behind_parenthesis, has_parenthesis, is_closed, without_last, is_long_angle, has_angle_form, has_letter, gate_slot, operand_numbers, operand_of_parts, operand_slot};
 
-use crate::faults::AsmKind;
 use crate::words::{are_digits, cut_at, number, place_of, word};
+use op_text::AsmKind;
 use qccd_base::Qubit;
 use qccd_circuit::are_name_bytes;
 

@@ -3,7 +3,7 @@
 ghost use Rattle.std.specs.Prelude.{◌≡◌, ◌∷◌, IfOk, map, option_copied};
 ghost use Rattle.op_table.specs.Op.{KeepsItemRule};
 ghost use Rattle.transport_asm.specs.Cursor.{words_left, GivesOp};
-ghost use Rattle.transport_asm.specs.Operations.{kind_of, item_at, item_op, finished};
+ghost use Rattle.op_text.specs.Operations.{kind_of, item_at, item_op, finished};
 ghost use Rattle.transport_asm.specs.Parts.{angles_left, as_list, head_of, tail_of};
 
 use crate::faults::OpFault;

@@ -3,14 +3,14 @@
 ghost use Rattle.std.specs.Prelude.{◌≡◌, ◌||◌, bytes_eq, codes, option_copied};
 ghost use Rattle.transport_asm.specs.Cursor.{words_left, Gives};
 ghost use Rattle.transport_asm.specs.Parts.{head_of, tail_of};
-ghost use Rattle.transport_asm.specs.Shapes.{read_one};
-ghost use Rattle.transport_asm.specs.Slots.{number_slot, bit_slot, greatest};
-ghost use Rattle.transport_asm.specs.Operations.{is_if, ends_item, second_at, measured_at, tail_at, item_shape, item_at, item_op, is_right, finished};
+ghost use Rattle.op_text.specs.Shapes.{read_one};
+ghost use Rattle.op_text.specs.Slots.{number_slot, bit_slot, greatest};
+ghost use Rattle.op_text.specs.Operations.{is_if, ends_item, second_at, measured_at, tail_at, item_shape, item_at, item_op, is_right, finished};
 
-use crate::faults::AsmKind;
 use crate::gates::{GateWord, gate_at, operand_at};
 use crate::shapes::trap_at;
 use crate::words::{cut, is, is_end, lettered, number, word};
+use op_text::AsmKind;
 use qccd_base::{Bit, Qubit, TrapId};
 
 /// What an item's line states up to its first qubit.

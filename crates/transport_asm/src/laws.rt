@@ -2,10 +2,10 @@
 
 ghost use Rattle.std.specs.Prelude.{◌≡◌, ◌⊎◌, List, ℕ, Ok};
 ghost use Rattle.op_table.specs.declared.kinds.OpKind.{OpKind};
-ghost use Rattle.claim_core.specs.Program.{ProgramData};
-ghost use Rattle.transport_asm.specs.OpText.{op_text};
+ghost use Rattle.qccd_program.specs.Program.{ProgramData};
+ghost use Rattle.op_text.specs.OpText.{op_text};
 ghost use Rattle.transport_asm.specs.Lines.{Refusal, words_of, line_text};
-ghost use Rattle.transport_asm.specs.Operations.{op_words, read_op};
+ghost use Rattle.op_text.specs.Operations.{op_words, read_op};
 ghost use Rattle.transport_asm.specs.Texts.{RawData, Spells, IsRefusedAt, raw_text};
 ghost use Rattle.transport_asm.specs.ProgramText.{program_text, spelled};
 ghost use Rattle.transport_asm.specs.Writable.{IsWritable, IsWritableRaw};

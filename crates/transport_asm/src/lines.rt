@@ -1,16 +1,17 @@
 //! The lines of a text.
 
 ghost use Rattle.std.specs.Prelude.{◌≡◌, ◌==◌, ℕ, ◌+◌, ◌<◌, ◌≤◌, ◌^◌, length, position, Some, None, IfOk, IfErr, IfSome};
-ghost use Rattle.transport_asm.specs.declared.faults.AsmKind.TheVariants.{Count};
+ghost use Rattle.op_text.specs.declared.kind.AsmKind.TheVariants.{Count};
 ghost use Rattle.transport_asm.specs.declared.faults.AsmFault.TheVariants.{Refused};
 ghost use Rattle.transport_asm.specs.Cursor.{Gives};
 ghost use Rattle.transport_asm.specs.LineCursor.{parts_of, unread, next_of, GivesAt, IsNumbered};
 ghost use Rattle.transport_asm.specs.Lines.{words_of, next_line, line_at, ended};
-ghost use Rattle.transport_asm.specs.Slots.{greatest, next_slot, size_slot};
+ghost use Rattle.op_text.specs.Slots.{greatest, next_slot, size_slot};
 ghost use Rattle.transport_asm.specs.Texts.{size_line, first_line, end_line};
 
-use crate::faults::{AsmFault, AsmKind};
+use crate::faults::AsmFault;
 use crate::words::{are_digits, cut, is, is_end, number, place_of, word};
+use op_text::AsmKind;
 
 /// What is left of a text: the number of its next line, and the bytes from there on.
 #[derive(Clone, Copy)]

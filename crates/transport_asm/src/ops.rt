@@ -3,14 +3,15 @@
 ghost use Rattle.std.specs.Prelude.{◌≡◌, nat_lt, option_copied};
 ghost use Rattle.transport_asm.specs.Cursor.{words_left, Gives, GivesOp};
 ghost use Rattle.transport_asm.specs.Lines.{words_of};
-ghost use Rattle.transport_asm.specs.Operations.{plain_right, plain_at, op_rows, read_row, finished, read_op};
+ghost use Rattle.op_text.specs.Operations.{plain_right, plain_at, op_rows, read_row, finished, read_op};
 
-use crate::faults::{AsmKind, OpFault};
+use crate::faults::OpFault;
 use crate::fences::fence_op;
 use crate::item_ops::item_op;
 use crate::shapes::plain_named;
 use crate::words::{is, is_end, word};
 use op_table::{Op, OpKind};
+use op_text::AsmKind;
 use std::alloc::Global;
 
 // Whether the positions are in order.

@@ -2,15 +2,14 @@
 
 ghost use Rattle.std.specs.Prelude.{◌≡◌, ◌++◌, ℕ, codes, decimal, flat_map, length};
 ghost use Rattle.qccd_io.specs.Sends.{Sends};
-ghost use Rattle.transport_asm.specs.OpText.{next_word};
+ghost use Rattle.op_text.specs.OpText.{next_word};
 ghost use Rattle.transport_asm.specs.ProgramText.{program_text, counts_text, traps_head, ions_text, chain_text, ops_head, op_line_text, numbered_texts, front_text, back_text};
 
-use crate::pieces::put_op;
-use crate::writing::write_op;
-use claim_core::Program;
 use op_table::Op;
+use op_text::{put_op, write_op};
 use qccd_base::{Ion, TrapId};
 use qccd_io::{Failed, Piece, Sink, send, send_labelled};
+use qccd_program::Program;
 
 fn send_qubit_count<S: Sink>(sink: &mut S, qubits: u16) -> Result<(), Failed>
     ensures { Sends S.taken S.faults S.behind sink.old sink.new result (codes "QCCD 1\nqubits " ++ decimal qubits) }

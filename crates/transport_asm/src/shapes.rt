@@ -4,13 +4,13 @@ ghost use Rattle.std.specs.Prelude.{◌≡◌, ◌<◌, ℕ, IfOk, take, option_
 ghost use Rattle.qccd_base.specs.Names.{trap, segment};
 ghost use Rattle.transport_asm.specs.Lines.{words_of};
 ghost use Rattle.transport_asm.specs.Cursor.{words_left, size_left, Gives};
-ghost use Rattle.transport_asm.specs.Shapes.{read_one};
-ghost use Rattle.transport_asm.specs.Slots.{trap_slot, segment_slot, junction_slot, end_slot};
-ghost use Rattle.transport_asm.specs.Operations.{position_slot, split_shape, move_shape, enter_shape, leave_shape, merge_shape, rot_shape, gswap_shape, op_rows, read_row};
+ghost use Rattle.op_text.specs.Shapes.{read_one};
+ghost use Rattle.op_text.specs.Slots.{trap_slot, segment_slot, junction_slot, end_slot};
+ghost use Rattle.op_text.specs.Operations.{position_slot, split_shape, move_shape, enter_shape, leave_shape, merge_shape, rot_shape, gswap_shape, op_rows, read_row};
 
-use crate::faults::AsmKind;
 use crate::words::{is, lettered, number, word};
 use op_table::OpKind;
+use op_text::AsmKind;
 use qccd_base::{End, JuncId, SegId, TrapId};
 
 /// The trap that the next word names, and what is left behind it.

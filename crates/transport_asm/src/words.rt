@@ -5,10 +5,10 @@ ghost use Rattle.std.specs.Char.{is_ascii_digit};
 ghost use Rattle.std.specs.List.{list_all, slice_split};
 ghost use Rattle.transport_asm.specs.Lines.{words_of};
 ghost use Rattle.transport_asm.specs.Cursor.{words_left, parts_left, size_left, Gives};
-ghost use Rattle.transport_asm.specs.Shapes.{first_word, is_end};
-ghost use Rattle.transport_asm.specs.Slots.{are_digits, number_slot, lettered};
+ghost use Rattle.op_text.specs.Shapes.{first_word, is_end};
+ghost use Rattle.op_text.specs.Slots.{are_digits, number_slot, lettered};
 
-use crate::faults::AsmKind;
+use op_text::AsmKind;
 use qccd_base::read_number;
 
 /// Where the byte is found first.

@@ -5,7 +5,7 @@ use lib.ListN.{get_elem?}
 use Rattle.std.specs.Slots.{slots_counts, slots_filled, slots_items}
 use Rattle.std.proofs.lemmas.Option.{none-some}
 use Rattle.op_cells.specs.declared.cells.Cell.{Cell}
-use Rattle.claim_history.proofs.Kept.{cases_ℕ}
+use Rattle.claim_core.proofs.Kept.{cases_ℕ}
 use Rattle.claim_board.specs.View.{turn_in}
 use Rattle.claim_board.proofs.Emptying.{elem-or, full-slot, take-le, take-more}
 use Rattle.claim_board.proofs.Handing.{map-long}

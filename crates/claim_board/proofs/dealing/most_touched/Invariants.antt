@@ -1,5 +1,5 @@
 use Rattle.std.proofs.Common.{◌<◌, ◌≤◌, ℕ, length}
-use Rattle.claim_history.specs.Event.{touched}
+use Rattle.claim_core.specs.Event.{touched}
 use Rattle.claim_board.proofs.dealing.most_touched.Given as goal
 
 abbrev pub invariant-loop-op : goal.invariant-loop-op

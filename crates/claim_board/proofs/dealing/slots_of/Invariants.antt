@@ -1,6 +1,6 @@
 use Rattle.std.proofs.Common.{◌≡◌, ◌++◌, List, length, map, reverse, Some}
 use Rattle.op_cells.specs.declared.cells.Cell.{Cell}
-use Rattle.claim_core.specs.AllCells.{AtStep}
+use Rattle.qccd_program.specs.AllCells.{AtStep}
 use Rattle.claim_board.proofs.dealing.slots_of.Given as goal
 
 abbrev pub invariant-loop-cell : goal.invariant-loop-cell

@@ -1,10 +1,10 @@
 use Rattle.std.proofs.Common.{◌≡◌, ◌<◌, ◌+◌, ℕ, List, [], ◌∷◌, length, length-append, take, refl, sym, ◌∙◌, ap, subst, arith}
 use Rattle.qccd_base.specs.declared.names.Res.{Res}
 use Rattle.op_cells.specs.declared.cells.Held.{Held}
-use Rattle.claim_core.specs.Program.{ProgramData}
-use Rattle.claim_history.specs.Event.{touched}
-use Rattle.claim_history.proofs.Coded.{not-empty}
-use Rattle.claim_history.proofs.Legally.{claims-legal}
+use Rattle.qccd_program.specs.Program.{ProgramData}
+use Rattle.claim_core.specs.Event.{touched}
+use Rattle.claim_core.proofs.Coded.{not-empty}
+use Rattle.claim_core.proofs.Legally.{claims-legal}
 use Rattle.claim_board.specs.Pass.{AreCells, HasGiven, next_turn}
 use Rattle.claim_board.proofs.Handing.{cells-last, given-none, map-long}
 use Rattle.claim_board.proofs.giving.give_all.Goals as goal

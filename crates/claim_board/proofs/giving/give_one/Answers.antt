@@ -3,8 +3,8 @@ use Rattle.atomic_table.specs.Seated.{TableId}
 use Rattle.atomic_table.specs.Table.{rest}
 use Rattle.op_cells.specs.Numbering.{index_of}
 use Rattle.op_table.specs.Touch.{nth}
-use Rattle.claim_core.specs.CellOfRun.{IsCell}
-use Rattle.claim_core.specs.Program.{ProgramData}
+use Rattle.qccd_program.specs.CellOfRun.{IsCell}
+use Rattle.qccd_program.specs.Program.{ProgramData}
 use Rattle.claim_board.specs.declared.view.View.{View}
 use Rattle.claim_board.specs.Plays.{Knows, after_give}
 use Rattle.claim_board.specs.View.{seen_also}

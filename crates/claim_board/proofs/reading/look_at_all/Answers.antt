@@ -1,7 +1,7 @@
 use Rattle.std.proofs.Common.{ℕ, List, [], length, Option, refl, sym, ◌∙◌, ap, subst}
 use Rattle.std.specs.Prelude.{IfSome}
 use Rattle.std.proofs.lemmas.Bool.{false≢true}
-use Rattle.claim_history.proofs.Coded.{index-at}
+use Rattle.claim_core.proofs.Coded.{index-at}
 use Rattle.claim_board.specs.declared.claimed.Claimed.{Claimed}
 use Rattle.claim_board.specs.Pass.{Answered}
 use Rattle.claim_board.proofs.Claims.{looked-next, looked-own, none-told, told-looked}

@@ -2,7 +2,7 @@ use Rattle.std.proofs.Common.{◌≡◌, ◌≤◌, true, take}
 use Rattle.qccd_base.specs.declared.names.Res.{Res}
 use Rattle.qccd_base.specs.Resource.{among}
 use Rattle.op_table.specs.Touch.{nth}
-use Rattle.claim_history.specs.Event.{touched}
+use Rattle.claim_core.specs.Event.{touched}
 use Rattle.claim_board.specs.Pass.{Looked, Sits}
 use Rattle.claim_board.specs.View.{seen_of}
 use Rattle.claim_board.proofs.reading.look_at_all.Given as goal

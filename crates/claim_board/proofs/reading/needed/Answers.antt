@@ -1,5 +1,5 @@
-use Rattle.claim_history.proofs.Coded.{get-there}
-use Rattle.claim_history.proofs.Legally.{claims-legal}
+use Rattle.claim_core.proofs.Coded.{get-there}
+use Rattle.claim_core.proofs.Legally.{claims-legal}
 use Rattle.claim_board.proofs.reading.needed.Goals as goal
 
 pub returns-clause-there : goal.returns-clause-there

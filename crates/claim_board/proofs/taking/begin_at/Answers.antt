@@ -2,9 +2,9 @@ use Rattle.std.proofs.Common.{◌≡◌, ◌≢◌, ℕ, ◌+◌, ◌*◌, ◌<�
 use Rattle.atomic_table.specs.Seated.{TableId}
 use Rattle.op_cells.specs.Numbering.{index_of}
 use Rattle.op_table.specs.Touch.{nth}
-use Rattle.claim_core.specs.Program.{ProgramData}
-use Rattle.claim_history.specs.Event.{touched}
-use Rattle.claim_history.proofs.Kept.{first_among}
+use Rattle.qccd_program.specs.Program.{ProgramData}
+use Rattle.claim_core.specs.Event.{touched}
+use Rattle.claim_core.proofs.Kept.{first_among}
 use Rattle.claim_board.specs.declared.claimed.Claimed.{Claimed}
 use Rattle.claim_board.specs.declared.view.View.{View}
 use Rattle.claim_board.specs.Pass.{Answered, Looked}

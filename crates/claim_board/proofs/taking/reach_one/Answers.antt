@@ -3,7 +3,7 @@ use Rattle.std.proofs.Common.{◌≡◌, ℕ, ◌*◌, ◌<◌, ◌∷◌, None,
 use Rattle.atomic_table.specs.Seated.{TableId}
 use Rattle.op_cells.specs.Numbering.{index_of}
 use Rattle.op_table.specs.Touch.{nth}
-use Rattle.claim_core.specs.Program.{ProgramData}
+use Rattle.qccd_program.specs.Program.{ProgramData}
 use Rattle.claim_board.specs.declared.view.View.{View}
 use Rattle.claim_board.specs.Plays.{Knows, after_reach}
 use Rattle.claim_board.specs.View.{seen_also}

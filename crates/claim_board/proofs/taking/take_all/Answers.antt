@@ -7,9 +7,9 @@ use Rattle.qccd_base.specs.Names.{trap}
 use Rattle.qccd_base.specs.declared.names.Res.{Res}
 use Rattle.qccd_base.specs.declared.names.Res.TheVariants.{Trap}
 use Rattle.op_table.specs.Touch.{nth}
-use Rattle.claim_history.specs.Event.{touched}
-use Rattle.claim_history.proofs.Coded.{get-there, index-at, not-empty}
-use Rattle.claim_history.proofs.Legally.{claims-legal}
+use Rattle.claim_core.specs.Event.{touched}
+use Rattle.claim_core.proofs.Coded.{get-there, index-at, not-empty}
+use Rattle.claim_core.proofs.Legally.{claims-legal}
 use Rattle.claim_board.specs.declared.claimed.Claimed.{Claimed}
 use Rattle.claim_board.specs.Plays.{Knows, Takes, after_begin}
 use Rattle.claim_board.proofs.Claims.{may-begin, none-told, sits-same, taken-first}

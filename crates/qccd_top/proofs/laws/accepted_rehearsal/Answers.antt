@@ -1,7 +1,7 @@
 use Rattle.std.proofs.Common.{ℕ, ◌*◌, ◌≤◌, Some, refl, sym, subst, inl}
 use Rattle.qccd_base.specs.declared.names.Mode.TheVariants.{IonSwap}
 use Rattle.qccd_machine.specs.Machine.{worst_of}
-use Rattle.claim_core.specs.Program.{ProgramData}
+use Rattle.qccd_program.specs.Program.{ProgramData}
 use Rattle.compiler.specs.Chosen.{chosen}
 use Rattle.rehearsal.specs.Generated.{generated}
 use Rattle.rehearsal.proofs.Circuits.{generated_circuit, length-drawn}

@@ -1,6 +1,6 @@
 use Rattle.std.proofs.Common.{Some, refl, inl}
 use Rattle.qasm_reader.proofs.Answered.{keeps_the_rule}
-use Rattle.claim_core.specs.Program.{ProgramData}
+use Rattle.qccd_program.specs.Program.{ProgramData}
 use Rattle.compiler.specs.Chosen.{chosen}
 use Rattle.tracer.specs.Report.{report_text}
 use Rattle.qccd_words.specs.Words.{AskedRun}

@@ -1,6 +1,6 @@
 use Rattle.std.proofs.Common.{refl, inl, inr}
 use Rattle.qccd_words.specs.Words.{AskedCheck}
-use Rattle.qccd_refusals.specs.Cause.{Circuit}
+use Rattle.qccd_messages.specs.Cause.{Circuit}
 use Rattle.qccd_top.specs.Stage.{◌>>=◌}
 use Rattle.qccd_top.proofs.laws.circuit_before_program.Goals as goal
 

@@ -1,6 +1,6 @@
 use Rattle.std.proofs.Common.{refl, inl, inr}
 use Rattle.qccd_words.specs.Words.{AskedExec}
-use Rattle.qccd_refusals.specs.Cause.{TooLarge}
+use Rattle.qccd_messages.specs.Cause.{TooLarge}
 use Rattle.qccd_top.specs.declared.limits.TheConstants.{PROGRAM_LIMIT}
 use Rattle.qccd_top.specs.Stage.{◌>>=◌}
 use Rattle.qccd_top.proofs.laws.large_program.Goals as goal

@@ -1,5 +1,5 @@
 use Rattle.std.proofs.Common.{refl, inl, inr}
-use Rattle.qccd_refusals.specs.Cause.{Words}
+use Rattle.qccd_messages.specs.Cause.{Words}
 use Rattle.qccd_top.specs.Stage.{◌>>=◌}
 use Rattle.qccd_top.proofs.laws.no_reading.Goals as goal
 

@@ -1,6 +1,6 @@
 use Rattle.std.proofs.Common.{refl, inl, inr}
 use Rattle.qccd_words.specs.Words.{OfFile, AskedRun}
-use Rattle.qccd_refusals.specs.Cause.{Machine}
+use Rattle.qccd_messages.specs.Cause.{Machine}
 use Rattle.qccd_top.specs.Stage.{◌>>=◌}
 use Rattle.qccd_top.proofs.laws.refused_machine.Goals as goal
 

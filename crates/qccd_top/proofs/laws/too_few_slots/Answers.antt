@@ -1,7 +1,7 @@
 use Rattle.std.proofs.Common.{refl, inl, inr}
 use Rattle.qccd_machine.specs.Machine.{slots_of}
 use Rattle.qccd_words.specs.Words.{AskedRun}
-use Rattle.qccd_refusals.specs.Cause.{Shortage}
+use Rattle.qccd_messages.specs.Cause.{Shortage}
 use Rattle.qccd_top.specs.Stage.{◌>>=◌}
 use Rattle.qccd_top.proofs.laws.too_few_slots.Goals as goal
 

@@ -1,6 +1,6 @@
 use Rattle.std.proofs.Common.{length, refl, inl, inr}
 use Rattle.qccd_words.specs.Words.{AskedRun}
-use Rattle.qccd_refusals.specs.Cause.{TooLong}
+use Rattle.qccd_messages.specs.Cause.{TooLong}
 use Rattle.qccd_top.specs.Stage.{◌>>=◌}
 use Rattle.qccd_top.proofs.laws.too_long.Goals as goal
 

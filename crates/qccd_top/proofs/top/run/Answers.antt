@@ -1,5 +1,5 @@
 use Rattle.std.proofs.Common.{◌∙◌, sym, ap}
-use Rattle.qccd_refusals.specs.Cause.{status_of}
+use Rattle.qccd_messages.specs.Cause.{status_of}
 use Rattle.qccd_top.specs.Call.{call_of, output}
 use Rattle.qccd_top.proofs.Dues.{done_exact, refused_exact}
 use Rattle.qccd_top.proofs.Headline.{headline, cut, program_written, executed, same_told, rehearsed}

@@ -1,6 +1,6 @@
 use Rattle.std.proofs.Common.{ℕ, List, ◌++◌, decimal, ap, arith}
 use Rattle.std.specs.List.{enumerate_from}
-use Rattle.transport_asm.specs.OpText.{next_word}
+use Rattle.op_text.specs.OpText.{next_word}
 use Rattle.tracer.specs.Report.{columns, count_text}
 use Rattle.tracer.proofs.Loops.{more_sent, part_sent, all_sent, numbered_at, sent_as}
 use Rattle.tracer.proofs.counting.send_columns.Goals as goal

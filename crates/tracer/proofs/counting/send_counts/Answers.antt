@@ -1,7 +1,7 @@
 use Rattle.std.proofs.Common.{ℕ, List, ◌++◌, codes, Ok, Err}
 use Rattle.std.specs.Prelude.{flat_map}
 use Rattle.qccd_io.proofs.Sent.{sent_next, sent_last}
-use Rattle.transport_asm.proofs.Sending.{sent_grown}
+use Rattle.op_text.proofs.Sending.{sent_grown}
 use Rattle.std.specs.List.{enumerate_from}
 use Rattle.op_table.specs.declared.kinds.OpKind.{OpKind}
 use Rattle.tracer.specs.Report.{count_text, columns}

@@ -1,10 +1,10 @@
 use Rattle.std.proofs.Common.{ℕ, List, ◌++◌, Ok, Err}
 use Rattle.std.specs.Prelude.{flat_map, length}
 use Rattle.qccd_io.proofs.Sent.{sent_next, sent_last}
-use Rattle.transport_asm.proofs.Sending.{sent_grown}
+use Rattle.op_text.proofs.Sending.{sent_grown}
 use Rattle.std.specs.List.{range_with_len}
 use Rattle.op_table.specs.State.{is_on_segment, is_in_junction}
-use Rattle.claim_core.specs.Program.{ProgramData, end_of}
+use Rattle.qccd_program.specs.Program.{ProgramData, end_of}
 use Rattle.tracer.specs.Report.{end_line, stray_lines}
 use Rattle.tracer.proofs.ends.send_ends.Goals as goal
 

@@ -1,6 +1,6 @@
 use Rattle.op_table.specs.declared.contents.Entry.{Entry}
 use Rattle.qccd_io.proofs.Sent.{sent_flat}
-use Rattle.transport_asm.specs.OpText.{next_word}
+use Rattle.op_text.specs.OpText.{next_word}
 use Rattle.tracer.specs.Report.{pair_text}
 use Rattle.tracer.proofs.ends.send_entries.Goals as goal
 

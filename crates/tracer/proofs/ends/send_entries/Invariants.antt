@@ -1,6 +1,6 @@
 use Rattle.std.proofs.Common.{Ok, take}
 use Rattle.std.specs.Prelude.{flat_map}
-use Rattle.transport_asm.specs.OpText.{next_word}
+use Rattle.op_text.specs.OpText.{next_word}
 use Rattle.tracer.specs.Report.{pair_text}
 use Rattle.op_table.specs.declared.contents.Entry.{Entry}
 use Rattle.qccd_io.specs.declared.failed.Failed.{Failed}

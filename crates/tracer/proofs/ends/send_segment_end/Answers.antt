@@ -3,7 +3,7 @@ use Rattle.qccd_io.specs.declared.failed.Failed.{Failed}
 use Rattle.qccd_io.specs.Sends.{Sends}
 use Rattle.qccd_io.proofs.Sent.{sent_nothing}
 use Rattle.op_table.specs.Act.{rider_in}
-use Rattle.claim_core.specs.Program.{end_of}
+use Rattle.qccd_program.specs.Program.{end_of}
 use Rattle.tracer.proofs.Ending.{end-safe, rider_text, segment_text}
 use Rattle.tracer.proofs.ends.send_segment_end.Goals as goal
 

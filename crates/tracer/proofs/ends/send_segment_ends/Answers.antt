@@ -1,5 +1,5 @@
 use Rattle.std.proofs.Common.{ap, arith}
-use Rattle.claim_core.specs.Program.{end_of}
+use Rattle.qccd_program.specs.Program.{end_of}
 use Rattle.op_table.specs.State.{is_on_segment}
 use Rattle.tracer.specs.Report.{stray_lines}
 use Rattle.std.specs.Prelude.{length}

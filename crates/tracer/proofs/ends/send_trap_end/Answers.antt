@@ -2,13 +2,13 @@ use Rattle.std.proofs.Common.{ℕ, List, ◌++◌, codes, Ok, Err, ap, ◌∙◌
 use Rattle.std.specs.Prelude.{flat_map}
 use Rattle.qccd_io.specs.Sends.{Sends}
 use Rattle.qccd_io.proofs.Sent.{sent_next, sent_last}
-use Rattle.transport_asm.proofs.Sending.{sent_grown}
+use Rattle.op_text.proofs.Sending.{sent_grown}
 use Rattle.qccd_io.specs.declared.failed.Failed.{Failed}
 use Rattle.op_table.specs.declared.contents.Entry.{Entry}
 use Rattle.op_table.specs.Act.{chain_in, heat_in}
 use Rattle.op_table.specs.State.{heat_of}
-use Rattle.claim_core.specs.Program.{ProgramData, end_of}
-use Rattle.transport_asm.specs.OpText.{next_word}
+use Rattle.qccd_program.specs.Program.{ProgramData, end_of}
+use Rattle.op_text.specs.OpText.{next_word}
 use Rattle.tracer.specs.Report.{labelled, entry_text, pair_text, chain_of}
 use Rattle.tracer.proofs.Ending.{chain_text}
 use Rattle.tracer.proofs.ends.send_trap_end.Goals as goal

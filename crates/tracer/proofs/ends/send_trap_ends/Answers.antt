@@ -1,5 +1,5 @@
 use Rattle.std.proofs.Common.{ap, arith}
-use Rattle.claim_core.specs.Program.{end_of}
+use Rattle.qccd_program.specs.Program.{end_of}
 use Rattle.tracer.specs.Report.{end_line}
 use Rattle.std.specs.Prelude.{length}
 use Rattle.std.specs.List.{range_with_len}

@@ -1,6 +1,6 @@
 use Rattle.std.proofs.Common.{Ok, take}
 use Rattle.std.specs.Prelude.{flat_map, length}
-use Rattle.claim_core.specs.Program.{end_of}
+use Rattle.qccd_program.specs.Program.{end_of}
 use Rattle.tracer.specs.Report.{end_line}
 use Rattle.std.specs.List.{range_with_len}
 use Rattle.qccd_io.specs.declared.failed.Failed.{Failed}

@@ -1,11 +1,11 @@
 use Rattle.std.proofs.Common.{ℕ, List, ◌++◌, codes, ap, Ok, Err}
 use Rattle.std.specs.Prelude.{flat_map, length}
 use Rattle.qccd_io.proofs.Sent.{sent_next, sent_last}
-use Rattle.transport_asm.proofs.Sending.{sent_grown}
+use Rattle.op_text.proofs.Sending.{sent_grown}
 use Rattle.std.specs.List.{enumerate_from}
 use Rattle.qccd_base.specs.Line.{line}
 use Rattle.op_table.specs.declared.kinds.OpKind.{OpKind}
-use Rattle.claim_core.specs.Program.{ProgramData}
+use Rattle.qccd_program.specs.Program.{ProgramData}
 use Rattle.tracer.specs.Report.{labelled, size_line, start_line}
 use Rattle.tracer.proofs.Loops.{sent_as}
 use Rattle.tracer.proofs.report.send_front.Goals as goal

@@ -1,7 +1,7 @@
 use Rattle.qccd_base.specs.declared.names.Ion.{Ion}
 use Rattle.qccd_io.proofs.Sent.{sent_flat}
 use Rattle.std.specs.Prelude.{decimal}
-use Rattle.transport_asm.specs.OpText.{next_word}
+use Rattle.op_text.specs.OpText.{next_word}
 use Rattle.tracer.proofs.report.send_ions.Goals as goal
 
 pub returns-in_err-send_ion : goal.returns-in_err-send_ion

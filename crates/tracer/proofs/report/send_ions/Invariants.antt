@@ -1,6 +1,6 @@
 use Rattle.std.proofs.Common.{Ok, take}
 use Rattle.std.specs.Prelude.{flat_map, decimal}
-use Rattle.transport_asm.specs.OpText.{next_word}
+use Rattle.op_text.specs.OpText.{next_word}
 use Rattle.qccd_base.specs.declared.names.Ion.{Ion}
 use Rattle.qccd_io.specs.declared.failed.Failed.{Failed}
 use Rattle.qccd_io.specs.Sends.{Sends}

@@ -1,10 +1,10 @@
 use Rattle.std.proofs.Common.{◌≡◌, ℕ, List, ◌++◌, codes, decimal, Ok, Err, ap, subst, append_assoc}
 use Rattle.qccd_io.specs.Sends.{Sends}
 use Rattle.qccd_io.proofs.Sent.{sent_next, sent_last}
-use Rattle.transport_asm.proofs.Sending.{sent_grown}
+use Rattle.op_text.proofs.Sending.{sent_grown}
 use Rattle.op_table.specs.declared.kinds.OpKind.{OpKind}
 use Rattle.op_cells.specs.declared.cells.Done.{Done}
-use Rattle.transport_asm.specs.OpText.{op_text, next_word}
+use Rattle.op_text.specs.OpText.{op_text, next_word}
 use Rattle.tracer.proofs.report.send_long_op.Goals as goal
 
 abbrev times : Done → List ℕ

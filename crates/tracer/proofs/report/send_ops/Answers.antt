@@ -5,7 +5,7 @@ use Rattle.std.proofs.lemmas.Option.{get_or_from_slice_get, slice_get-get_or}
 use Rattle.op_table.specs.declared.kinds.OpKind.{OpKind}
 use Rattle.op_table.specs.Clock.{Timed}
 use Rattle.op_cells.specs.declared.cells.Done.{Done}
-use Rattle.claim_core.specs.Program.{ProgramData}
+use Rattle.qccd_program.specs.Program.{ProgramData}
 use Rattle.tracer.specs.Counted.{Tallied}
 use Rattle.tracer.specs.Order.{done_of, ordered}
 use Rattle.tracer.specs.TimeOrder.{listed_ops, time_order}

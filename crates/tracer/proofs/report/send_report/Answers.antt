@@ -1,10 +1,10 @@
 use Rattle.std.proofs.Common.{ℕ, List, ◌++◌, codes, ap, Ok, Err}
 use Rattle.std.specs.Prelude.{flat_map, length}
 use Rattle.qccd_io.proofs.Sent.{sent_next, sent_last}
-use Rattle.transport_asm.proofs.Sending.{sent_grown}
+use Rattle.op_text.proofs.Sending.{sent_grown}
 use Rattle.std.specs.List.{enumerate_from}
 use Rattle.qccd_base.specs.Line.{line}
-use Rattle.claim_core.specs.Program.{ProgramData}
+use Rattle.qccd_program.specs.Program.{ProgramData}
 use Rattle.tracer.specs.TimeOrder.{time_order}
 use Rattle.tracer.specs.Report.{labelled, size_line, start_line, op_line, end_lines, counts_line, last_finish}
 use Rattle.tracer.proofs.Loops.{sent_as, sent_plain}

@@ -3,8 +3,8 @@ use Rattle.std.specs.Prelude.{length}
 use Rattle.qccd_base.specs.Line.{line}
 use Rattle.qccd_machine.specs.Machine.{MachineData}
 use Rattle.qccd_io.proofs.Sent.{sent_next, sent_last}
-use Rattle.transport_asm.proofs.Sending.{sent_grown}
-use Rattle.claim_core.specs.Program.{ProgramData}
+use Rattle.op_text.proofs.Sending.{sent_grown}
+use Rattle.qccd_program.specs.Program.{ProgramData}
 use Rattle.tracer.specs.Report.{labelled}
 use Rattle.tracer.proofs.Loops.{sent_as}
 use Rattle.tracer.proofs.report.send_sizes.Goals as goal

@@ -1,10 +1,10 @@
 use Rattle.std.proofs.Common.{ℕ, List, ◌++◌, ◌≡◌, codes, ap, Ok, Err}
 use Rattle.qccd_io.proofs.Sent.{sent_next, sent_last}
-use Rattle.transport_asm.proofs.Sending.{sent_grown}
+use Rattle.op_text.proofs.Sending.{sent_grown}
 use Rattle.std.specs.Prelude.{length}
 use Rattle.qccd_base.specs.Line.{line}
 use Rattle.op_table.specs.declared.kinds.OpKind.{OpKind}
-use Rattle.claim_core.specs.Program.{ProgramData}
+use Rattle.qccd_program.specs.Program.{ProgramData}
 use Rattle.tracer.specs.Report.{labelled, counts_line, last_finish}
 use Rattle.tracer.specs.Summary.{traps_heat}
 use Rattle.tracer.proofs.Loops.{sent_as}

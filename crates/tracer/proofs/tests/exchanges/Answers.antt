@@ -1,7 +1,7 @@
 use Rattle.std.proofs.Common.{sym, ◌∙◌, ◌++◌, ◌∷◌, [], ap, subst, arith}
 use Rattle.op_table.specs.declared.kinds.OpKind.{OpKind}
-use Rattle.claim_core.specs.Legal.{IsLegalProgram}
-use Rattle.claim_core.proofs.Examples.{exchanges-legal, exchanges-read, replicated-next}
+use Rattle.qccd_program.specs.Legal.{IsLegalProgram}
+use Rattle.qccd_program.proofs.Examples.{exchanges-legal, exchanges-read, replicated-next}
 use Rattle.tracer.proofs.tests.exchanges.Goals as goal
 
 pub loop-init : goal.loop-init

@@ -1,6 +1,6 @@
 use Rattle.std.proofs.Common.{◌≡◌}
 use Rattle.std.specs.Prelude.{replicate}
-use Rattle.claim_core.specs.Example.{exchange}
+use Rattle.qccd_program.specs.Example.{exchange}
 use Rattle.tracer.proofs.tests.exchanges.Given as goal
 
 abbrev pub invariant-loop : goal.invariant-loop

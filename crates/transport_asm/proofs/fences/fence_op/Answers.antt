@@ -2,7 +2,7 @@ use Rattle.std.proofs.Common.{List, Result, Ok, Err, option_copied, sym, ◌∙�
 use Rattle.std.specs.Prelude.{option_map}
 use Rattle.std.proofs.lemmas.Result.{err_from_is_err_and}
 use Rattle.op_table.specs.declared.kinds.OpKind.{OpKind}
-use Rattle.transport_asm.specs.declared.faults.AsmKind.{AsmKind}
+use Rattle.op_text.specs.declared.kind.AsmKind.{AsmKind}
 use Rattle.transport_asm.specs.Cursor.{words_left, GivesOp}
 use Rattle.transport_asm.proofs.FenceReading.{fence_goes, fence_fails}
 use Rattle.transport_asm.proofs.ItemReading.{fence_kept}

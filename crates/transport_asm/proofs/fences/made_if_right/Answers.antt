@@ -3,7 +3,7 @@ use Rattle.std.specs.Prelude.{option_map}
 use Rattle.op_table.specs.Op.{are_ascending}
 use Rattle.op_table.specs.declared.kinds.OpKind.TheVariants.{Fence}
 use Rattle.transport_asm.specs.Marks.{fence_made}
-use Rattle.transport_asm.specs.Operations.{barrier_over}
+use Rattle.op_text.specs.Operations.{barrier_over}
 use Rattle.transport_asm.proofs.FenceReading.{fence_right}
 use Rattle.transport_asm.proofs.fences.made_if_right.Goals as goal
 

@@ -2,7 +2,7 @@ use Rattle.std.proofs.Common.{◌≡◌, option_copied}
 use Rattle.std.specs.List.{list_any}
 use Rattle.transport_asm.specs.Cursor.{size_left}
 use Rattle.transport_asm.specs.Parts.{angles_left}
-use Rattle.transport_asm.specs.Slots.{is_long_angle}
+use Rattle.op_text.specs.Slots.{is_long_angle}
 use Rattle.transport_asm.proofs.gates.any_long.Given as goal
 
 abbrev pub invariant-loop-left : goal.invariant-loop-left

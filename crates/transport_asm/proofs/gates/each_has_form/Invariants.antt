@@ -2,7 +2,7 @@ use Rattle.std.proofs.Common.{◌≡◌, option_copied}
 use Rattle.std.specs.List.{list_all}
 use Rattle.transport_asm.specs.Cursor.{size_left}
 use Rattle.transport_asm.specs.Parts.{angles_left}
-use Rattle.transport_asm.specs.Slots.{has_angle_form}
+use Rattle.op_text.specs.Slots.{has_angle_form}
 use Rattle.transport_asm.proofs.gates.each_has_form.Given as goal
 
 abbrev pub invariant-loop-left : goal.invariant-loop-left

@@ -1,8 +1,8 @@
 use Rattle.std.proofs.Common.{rules, ◌≡◌, ℕ, zero, suc, ◌+◌, ◌-◌, ◌<◌, Bool, true, false, cond, not, ◌&&◌, ◌||◌, ◌==◌, List, [], ◌∷◌, ◌++◌, length, take, drop, Option, Result, option_copied, Bor, Some, None, Ok, Err, refl, sym, ap, ◌∙◌, subst, arith}
 use Rattle.qccd_base.specs.declared.names.Qubit.{Qubit}
-use Rattle.transport_asm.specs.declared.faults.AsmKind.{AsmKind}
+use Rattle.op_text.specs.declared.kind.AsmKind.{AsmKind}
 use Rattle.transport_asm.specs.Cursor.{Gives, parts_left}
-use Rattle.transport_asm.specs.Slots.{operand_of_parts}
+use Rattle.op_text.specs.Slots.{operand_of_parts}
 use Rattle.transport_asm.proofs.GateReading.{two_parts}
 use Rattle.transport_asm.proofs.gates.operand.Goals as goal
 

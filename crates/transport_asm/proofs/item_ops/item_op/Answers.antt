@@ -1,6 +1,6 @@
 use Rattle.std.proofs.Common.{option_copied}
 use Rattle.transport_asm.specs.Cursor.{words_left}
-use Rattle.transport_asm.specs.Operations.{item_op}
+use Rattle.op_text.specs.Operations.{item_op}
 use Rattle.transport_asm.specs.Parts.{head_of, tail_of}
 use Rattle.transport_asm.proofs.ItemReading.{item_kept}
 use Rattle.transport_asm.proofs.item_ops.item_op.Goals as goal

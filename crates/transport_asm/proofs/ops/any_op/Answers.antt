@@ -1,6 +1,6 @@
 use Rattle.std.proofs.Common.{List, Result, option_copied, sym, ◌∙◌, subst}
 use Rattle.op_table.specs.declared.kinds.OpKind.{OpKind}
-use Rattle.transport_asm.specs.declared.faults.AsmKind.{AsmKind}
+use Rattle.op_text.specs.declared.kind.AsmKind.{AsmKind}
 use Rattle.transport_asm.specs.Cursor.{words_left, GivesOp}
 use Rattle.transport_asm.proofs.OpReading.{plain_goes, item_goes, fence_goes}
 use Rattle.transport_asm.proofs.ops.any_op.Goals as goal

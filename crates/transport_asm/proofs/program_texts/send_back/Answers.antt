@@ -2,7 +2,7 @@ use Rattle.std.proofs.Common.{ℕ, List, ◌++◌, codes, length, Ok, Err}
 use Rattle.op_table.specs.declared.kinds.OpKind.{OpKind}
 use Rattle.qccd_io.proofs.Sent.{sent_next, sent_last}
 use Rattle.transport_asm.specs.ProgramText.{ops_head, op_line_text, numbered_texts}
-use Rattle.transport_asm.proofs.Sending.{sent_grown}
+use Rattle.op_text.proofs.Sending.{sent_grown}
 use Rattle.transport_asm.proofs.program_texts.send_back.Goals as goal
 
 abbrev head : List OpKind → List ℕ

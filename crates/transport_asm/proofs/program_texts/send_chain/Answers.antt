@@ -2,7 +2,7 @@ use Rattle.std.proofs.Common.{ℕ, List, ◌++◌, codes, decimal, Ok, Err}
 use Rattle.qccd_base.specs.declared.names.Ion.{Ion}
 use Rattle.qccd_io.proofs.Sent.{sent_next, sent_last}
 use Rattle.transport_asm.specs.ProgramText.{ions_text}
-use Rattle.transport_asm.proofs.Sending.{sent_grown}
+use Rattle.op_text.proofs.Sending.{sent_grown}
 use Rattle.transport_asm.proofs.program_texts.send_chain.Goals as goal
 
 abbrev head : ℕ → List ℕ

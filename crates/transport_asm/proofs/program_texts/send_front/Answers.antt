@@ -2,7 +2,7 @@ use Rattle.std.proofs.Common.{ℕ, List, ◌++◌, length, Ok, Err, sym, ◌∙�
 use Rattle.qccd_base.specs.declared.names.Ion.{Ion}
 use Rattle.qccd_io.proofs.Sent.{sent_next, sent_last}
 use Rattle.transport_asm.specs.ProgramText.{counts_text, traps_head, chain_text, numbered_texts}
-use Rattle.transport_asm.proofs.Sending.{sent_grown}
+use Rattle.op_text.proofs.Sending.{sent_grown}
 use Rattle.transport_asm.proofs.program_texts.send_front.Goals as goal
 
 abbrev chains : List (List Ion) → List ℕ

@@ -1,7 +1,7 @@
 use Rattle.std.proofs.Common.{ℕ, List, ◌++◌, codes, decimal, Ok, Err}
 use Rattle.qccd_io.proofs.Sent.{sent_next, sent_last}
-use Rattle.transport_asm.specs.OpText.{op_text}
-use Rattle.transport_asm.proofs.Sending.{sent_grown}
+use Rattle.op_text.specs.OpText.{op_text}
+use Rattle.op_text.proofs.Sending.{sent_grown}
 use Rattle.transport_asm.proofs.program_texts.send_long_op.Goals as goal
 
 abbrev head : ℕ → List ℕ

@@ -1,5 +1,5 @@
 use Rattle.std.proofs.Common.{rules, ◌≡◌, ℕ, List, Ok, Err, sym, ◌∙◌, ap, arith}
-use Rattle.transport_asm.specs.Slots.{number_slot}
+use Rattle.op_text.specs.Slots.{number_slot}
 use Rattle.transport_asm.proofs.Numbers.{number_again, refused_digits, refused_word}
 use Rattle.transport_asm.proofs.words.number.Goals as goal
 

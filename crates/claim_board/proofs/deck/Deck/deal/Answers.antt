@@ -1,8 +1,8 @@
 use Rattle.std.proofs.Common.{ℕ, replicate, sym, subst, ◌∙◌, ap, arith}
-use Rattle.claim_core.specs.AllCells.{AtStep}
-use Rattle.claim_core.specs.Legal.{IsLegalProgram}
-use Rattle.claim_core.specs.Program.{ProgramData}
-use Rattle.claim_history.specs.Board.{width}
+use Rattle.qccd_program.specs.AllCells.{AtStep}
+use Rattle.qccd_program.specs.Legal.{IsLegalProgram}
+use Rattle.qccd_program.specs.Program.{ProgramData}
+use Rattle.claim_core.specs.Board.{width}
 use Rattle.claim_board.proofs.Opening.{opening-rules}
 use Rattle.claim_board.proofs.deck.Deck.deal.Goals as goal
 

@@ -1,7 +1,0 @@
-use Rattle.std.proofs.Common.{◌≡◌, drop}
-use Rattle.std.specs.List.{list_all}
-use Rattle.claim_history.specs.Coded.{has_passed}
-use Rattle.claim_history.proofs.board.Board.is_finished.Given as goal
-
-abbrev pub invariant-loop-i : goal.invariant-loop-i
-invariant-loop-i l = list_all (has_passed l.program l.self l.op) l.touched ≡ list_all (has_passed l.program l.self l.op) (drop l.i l.touched)

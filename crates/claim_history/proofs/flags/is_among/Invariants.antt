@@ -1,6 +1,0 @@
-use Rattle.std.proofs.Common.{◌≡◌, drop}
-use Rattle.qccd_base.specs.Resource.{among}
-use Rattle.claim_history.proofs.flags.is_among.Given as goal
-
-abbrev pub invariant-loop-q : goal.invariant-loop-q
-invariant-loop-q l = among l.list l.r ≡ among (drop l.q-index l.list) l.r

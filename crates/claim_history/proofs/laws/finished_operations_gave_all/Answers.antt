@@ -1,5 +1,0 @@
-use Rattle.claim_history.proofs.Passing.{finished-given}
-use Rattle.claim_history.proofs.laws.finished_operations_gave_all.Goals as goal
-
-pub returns : goal.returns
-returns c = finished-given

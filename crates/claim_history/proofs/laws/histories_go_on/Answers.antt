@@ -1,9 +1,0 @@
-use Rattle.claim_history.specs.Board.{opening_board}
-use Rattle.claim_history.proofs.Events.{history-front, history-more}
-use Rattle.claim_history.proofs.laws.histories_go_on.Goals as goal
-
-pub returns-clause-prefix : goal.returns-clause-prefix
-returns-clause-prefix c p workers es n h = history-front p (opening_board p workers) es n h
-
-pub returns-clause-further : goal.returns-clause-further
-returns-clause-further c p workers es e h allowed = history-more p (opening_board p workers) es e h allowed

@@ -1,8 +1,0 @@
-use Rattle.claim_history.proofs.Examples.{barrier-least, barrier-enabled}
-use Rattle.claim_history.proofs.worked.barrier_is_enabled.Goals as goal
-
-pub returns-clause-least : goal.returns-clause-least
-returns-clause-least c = barrier-least
-
-pub returns-clause-enabled : goal.returns-clause-enabled
-returns-clause-enabled c = barrier-enabled

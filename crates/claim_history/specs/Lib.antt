@@ -1,9 +1,0 @@
-pub mod Board
-pub mod End
-pub mod Enabled
-pub mod Event
-pub mod Example
-pub mod History
-pub mod Order
-pub mod Sound
-pub mod Coded

@@ -1,5 +1,0 @@
-use Rattle.deck_rows.proofs.Readied.{ready-answer}
-use Rattle.deck_rows.proofs.passes.dealt.Goals as goal
-
-pub returns : goal.returns
-returns c = ready-answer c.args.program.now _ c.deal.result c.deal.ensures.deck c.deal.ensures.passes

@@ -1,8 +1,0 @@
-use Rattle.history_rows.specs.Rows.{IsOfTwo}
-use Rattle.history_rows.proofs.show_lines.Given as goal
-
-abbrev pub invariant-loop-line : goal.invariant-loop-line
-invariant-loop-line g l =
-    (goal.iterator-loop-line g).can_next l.line-iterator ×
-    (goal.iterator-loop-line g).is_finite l.line-iterator ×
-    IsOfTwo l.program l.board

@@ -1,0 +1,12 @@
+pub mod Bounded
+pub mod Clocks
+pub mod Examples
+pub mod Faithfully
+pub mod FirstCells
+pub mod Meets
+pub mod MeetsCells
+pub mod Runs
+pub mod Stepping
+pub mod Tables
+pub mod Turning
+pub mod Worlds

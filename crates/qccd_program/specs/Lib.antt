@@ -1,0 +1,12 @@
+pub mod AllCells
+pub mod CellOfRun
+pub mod Example
+pub mod Faithful
+pub mod First
+pub mod Implements
+pub mod Legal
+pub mod MeetsCells
+pub mod Program
+pub mod Turn
+pub mod Turns
+pub mod World

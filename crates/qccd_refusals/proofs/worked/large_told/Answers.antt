@@ -1,8 +1,0 @@
--- By computation.
-use Rattle.std.proofs.Common.{refl}
-use Rattle.std.specs.Fmt.{digits}
-use Rattle.qccd_refusals.proofs.worked.large_told.Goals as goal
-
-pub returns : goal.returns
-unfolding digits
-returns c = refl

@@ -1,8 +1,0 @@
--- By computation.
-use Rattle.std.proofs.Common.{refl}
-use Rattle.std.specs.Fmt.{digits}
-use Rattle.transport_asm.proofs.worked.fences.Goals as goal
-
-pub returns : goal.returns
-unfolding digits
-returns c = refl

@@ -1,9 +1,0 @@
-use Rattle.std.proofs.Common.{Ok, take}
-use Rattle.std.specs.Prelude.{flat_map}
-use Rattle.qccd_io.specs.declared.failed.Failed.{Failed}
-use Rattle.qccd_io.specs.Sends.{Sends}
-use Rattle.transport_asm.specs.OpText.{qubit_text, next_word}
-use Rattle.transport_asm.proofs.writing.send_qubits.Given as goal
-
-abbrev pub invariant-loop-qubit : goal.invariant-loop-qubit
-invariant-loop-qubit g l = Sends {T = Unit {0}} {E = Failed} g.S.Sink.taken g.S.Sink.faults g.S.Sink.behind l.fn.sink l.sink (Ok tt) (flat_map (λ q. next_word (qubit_text q)) (take l.qubit-index l.qubits))
