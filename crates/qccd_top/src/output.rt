@@ -9,10 +9,10 @@ ghost use Rattle.tracer.specs.Summary.{summary_text};
 ghost use Rattle.qccd_messages.specs.declared.refusal.Refusal.TheVariants.{Write};
 ghost use Rattle.qccd_top.specs.Done.{Writes};
 
-use qccd_program::{Program, run_in_order};
 use op_cells::Cells;
 use qccd_io::{Buffer, Buffered, Failed, Sink, send};
 use qccd_messages::Refusal;
+use qccd_program::{Program, run_in_order};
 use std::alloc::Global;
 use tracer::ReportFault;
 use transport_asm::write_program;

@@ -12,13 +12,13 @@ ghost use Rattle.qccd_top.specs.Means.{LoadedIn, CheckedIn};
 
 use crate::limits::PROGRAM_LIMIT;
 use crate::stages::{circuit_in, file_in, machine_in};
-use qccd_program::Program;
 use loader::{LoadFault, load};
 use meaning_check::{Verdict, compare};
 use qccd_circuit::Circuit;
 use qccd_io::Shelf;
 use qccd_machine::Machine;
 use qccd_messages::Refusal;
+use qccd_program::Program;
 use qccd_words::MachineWord;
 use std::alloc::Global;
 use transport_asm::{AsmFault, RawProgram, read_ops};

@@ -12,7 +12,6 @@ ghost use Rattle.qccd_top.specs.Stages.{FileIn, MachineOf, MachineIn, CircuitOf,
 ghost use Rattle.qccd_top.specs.Means.{CompiledIn, RehearsedIn};
 
 use crate::limits::{CIRCUIT_LIMIT, MACHINE_LIMIT};
-use qccd_program::Program;
 use compiler::{CompileFault, compile};
 use machine_text::{TextFault, read_machine};
 use qasm_reader::{QasmFault, read};
@@ -21,6 +20,7 @@ use qccd_circuit::Circuit;
 use qccd_io::{FetchFault, Shelf, fetch_all};
 use qccd_machine::{Machine, MachineFault, Preset, preset_machine};
 use qccd_messages::Refusal;
+use qccd_program::Program;
 use qccd_words::MachineWord;
 use rehearsal::rehearsal;
 use std::alloc::Global;

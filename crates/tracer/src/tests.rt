@@ -5,11 +5,11 @@ ghost use Rattle.op_table.specs.Example.{pair};
 ghost use Rattle.qccd_program.specs.Example.{exchanges, start_chains};
 
 use super::*;
-use qccd_program::{Program, run_in_order};
 use op_table::{Op, OpKind};
 use qccd_base::{End, Ion, IonList, Times, TrapId};
 use qccd_io::MemSink;
 use qccd_machine::{Machine, Parts, Place};
+use qccd_program::{Program, run_in_order};
 use std::alloc::Global;
 use std::test::Fail;
 
