@@ -8,7 +8,7 @@ ghost use Rattle.op_plan.specs.Plan.{state_of, wired, with_ops, Agrees, Continue
 ghost use Rattle.chain_reorder.specs.Reorder.{reorder_ops, rots_down, rots_up, swap_ops};
 
 use op_plan::Plan;
-use op_table::{Op, OpKind};
+use op_table::OpKind;
 use qccd_base::{End, Mode, NoMemory, Qubit, TrapId};
 use qccd_machine::Machine;
 use std::alloc::Global;
@@ -109,8 +109,7 @@ fn rotate(
     ensures done { OnOk result (plan.new ≡ with_ops plan.old (kind.Rot trap at ∷ [])) }
     ensures refused { OnErr result (plan.new ≡ plan.old) }
 {
-    let op = Op::of(alloc, OpKind::Rot { trap, at })?;
-    plan.emit(machine, op)
+    plan.append(alloc, machine, OpKind::Rot { trap, at })
 }
 
 // The ions at two positions exchange qubits, where these are two. Where memory runs out the plan stays.
@@ -132,6 +131,5 @@ fn exchange(
     if low == high {
         return Ok(());
     }
-    let op = Op::of(alloc, OpKind::GSwap { trap, low, high })?;
-    plan.emit(machine, op)
+    plan.append(alloc, machine, OpKind::GSwap { trap, low, high })
 }

@@ -3,10 +3,12 @@
 ghost use Rattle.std.specs.Prelude.{◌≡◌, ◌<◌, ◌∷◌, [], length, None, IfOk, OnErr, OnOk};
 ghost use Rattle.std.specs.Result.{result_err};
 ghost use Rattle.op_table.specs.Contents.{chain};
+ghost use Rattle.op_table.specs.Op.{IsOp};
+ghost use Rattle.op_table.specs.Run.{IsRun};
 ghost use Rattle.op_table.specs.Start.{IsStart};
 ghost use Rattle.op_table.specs.Step.{why};
 ghost use Rattle.op_plan.specs.Place.{home, stands_in};
-ghost use Rattle.op_plan.specs.Plan.{begun, state_of, with_ops, Agrees, IsPlan};
+ghost use Rattle.op_plan.specs.Plan.{begun, state_of, wired, with_ops, Agrees, IsPlan};
 
 use crate::moving::follow;
 use crate::opening::{
@@ -14,7 +16,7 @@ use crate::opening::{
 };
 use crate::reading::{chain_at, home_at, place_at, seat_of};
 use op_cells::{Cells, legal};
-use op_table::{Entry, Op, Why};
+use op_table::{Entry, Op, OpKind, OpShelf, Why};
 use qccd_base::{IonList, NoMemory, Qubit, TrapId};
 use qccd_machine::{Machine, Place};
 use std::alloc::Global;
@@ -37,6 +39,8 @@ pub struct Plan {
     homes: Vec<Option<TrapId>>,
     // for each qubit the position at which it is looked for first
     seats: Vec<usize>,
+    // the operations made before, so that equal ones are one
+    shelf: OpShelf,
 }
 
 impl Model for Plan {
@@ -85,6 +89,7 @@ impl Plan {
         let homes = opening_homes(alloc, machine, qubits, chains)?;
         let seats = opening_seats(alloc, qubits, chains)?;
         let ops = Vec::with_capacity(alloc, room)?;
+        let shelf = OpShelf::of(alloc)?;
         Ok(Plan {
             capacities,
             junctions: machine.junctions(),
@@ -96,6 +101,7 @@ impl Plan {
             cells,
             homes,
             seats,
+            shelf,
         })
     }
 
@@ -113,6 +119,21 @@ impl Plan {
         follow(machine, &op, &mut self.cells, &mut self.homes);
         self.ops.push_reserved(op);
         Ok(())
+    }
+
+    /// Appends an operation of this kind that is legal next, with what it leaves. Where an equal one that moves
+    /// ions was made before, that one is shared. Where memory runs out the plan stays as it was.
+    #[inline(always)]
+    pub fn append(&mut self, alloc: Global, machine: &Machine, kind: OpKind) -> Result<(), NoMemory>
+        requires machine { Agrees machine.now self.old }
+        requires few { length self.old.ops < 4194304 }
+        requires is_op { IsOp kind }
+        requires run { IsRun (wired self.old) (state_of self.old) (kind ∷ []) }
+        ensures done { OnOk result (self.new ≡ with_ops self.old (kind ∷ [])) }
+        ensures refused { OnErr result (self.new ≡ self.old) }
+    {
+        let op = self.shelf.op(alloc, kind)?;
+        self.emit(machine, op)
     }
 
     /// Whether the operation is legal after those of the plan, and if not, why: the cause that stands first

@@ -18,7 +18,7 @@ ghost use Rattle.rebalancer.specs.Room.{has_room};
 
 use chain_reorder::to_end;
 use op_plan::Plan;
-use op_table::{Op, OpKind};
+use op_table::OpKind;
 use qccd_base::{End, Mode, NoMemory, Qubit, Res, SegId, TrapId};
 use qccd_machine::{Machine, Place};
 use router::Routes;
@@ -180,9 +180,9 @@ fn cross(
     ensures done { OnOk result (plan.new ≡ with_ops plan.old (crossing seg.0 near far)) }
     ensures refused { OnErr result (Continues plan.old plan.new) }
 {
-    append(alloc, machine, plan, leave_by(seg, near))?;
-    append(alloc, machine, plan, OpKind::Move { seg })?;
-    append(alloc, machine, plan, arrive_by(seg, far))
+    plan.append(alloc, machine, leave_by(seg, near))?;
+    plan.append(alloc, machine, OpKind::Move { seg })?;
+    plan.append(alloc, machine, arrive_by(seg, far))
 }
 
 fn leave_by(seg: SegId, place: Place) -> OpKind
@@ -203,17 +203,4 @@ fn arrive_by(seg: SegId, place: Place) -> OpKind
         Place::TrapEnd(trap, end) => OpKind::Merge { seg, trap, end },
         Place::Junction(junc) => OpKind::Enter { seg, junc },
     }
-}
-
-// One operation. Where memory runs out the plan stays.
-fn append(alloc: Global, machine: &Machine, plan: &mut Plan, kind: OpKind) -> Result<(), NoMemory>
-    requires machine { Agrees machine.now plan.old }
-    requires few { length plan.old.ops < 4194304 }
-    requires is_op { IsOp kind }
-    requires run { IsRun (wired plan.old) (state_of plan.old) (kind ∷ []) }
-    ensures done { OnOk result (plan.new ≡ with_ops plan.old (kind ∷ [])) }
-    ensures refused { OnErr result (plan.new ≡ plan.old) }
-{
-    let op = Op::of(alloc, kind)?;
-    plan.emit(machine, op)
 }

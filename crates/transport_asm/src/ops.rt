@@ -10,7 +10,7 @@ use crate::fences::fence_op;
 use crate::item_ops::item_op;
 use crate::shapes::plain_named;
 use crate::words::{is, is_end, word};
-use op_table::{Op, OpKind};
+use op_table::{Op, OpKind, OpShelf};
 use op_text::AsmKind;
 use std::alloc::Global;
 
@@ -73,12 +73,12 @@ pub fn op_kind(alloc: Global, words: Option<&[u8]>) -> Result<OpKind, OpFault>
     any_op(alloc, name, rest)
 }
 
-/// The operation that the words are.
-pub fn op_of(alloc: Global, words: Option<&[u8]>) -> Result<Op, OpFault>
+/// The operation that the words are: that of the shelf, where an equal one stands there.
+pub fn op_of(alloc: Global, shelf: &mut OpShelf, words: Option<&[u8]>) -> Result<Op, OpFault>
     ensures { GivesOp (λ op. op) result (read_op (words_left (option_copied words.entry))) }
 {
     let kind = op_kind(alloc, words)?;
-    Ok(Op::of(alloc, kind)?)
+    Ok(shelf.op(alloc, kind)?)
 }
 
 /// The operation whose text the bytes are, with no line feed behind it. Refused where they are no
@@ -86,5 +86,6 @@ pub fn op_of(alloc: Global, words: Option<&[u8]>) -> Result<Op, OpFault>
 pub fn read_op(alloc: Global, text: &[u8]) -> Result<Op, OpFault>
     ensures { GivesOp (λ op. op) result (read_op (words_of text.now)) }
 {
-    op_of(alloc, Some(text))
+    let kind = op_kind(alloc, Some(text))?;
+    Ok(Op::of(alloc, kind)?)
 }

@@ -11,7 +11,7 @@ use crate::faults::{AsmFault, OpFault};
 use crate::lines::{Lines, end_at, ended, first_at, next_number, refused, size_at, take_line};
 use crate::ops::op_of;
 use crate::words::word;
-use op_table::Op;
+use op_table::{Op, OpShelf};
 use qccd_base::IonList;
 use std::alloc::Global;
 
@@ -30,38 +30,44 @@ pub struct RawProgram {
 }
 
 // The line of an operation, with its number.
-fn op(alloc: Global, k: u64, line: &[u8]) -> Result<Op, OpFault>
+fn op(alloc: Global, shelf: &mut OpShelf, k: u64, line: &[u8]) -> Result<Op, OpFault>
     ensures { GivesOp (λ op. op) result (op_line k (words_of line.now)) }
 {
     let (first, rest) = word(Some(line))?;
     next_number(first, k)?;
-    op_of(alloc, rest)
+    op_of(alloc, shelf, rest)
 }
 
 // The next line, of the operation with this number.
-fn op_at(alloc: Global, k: u64, lines: Lines<'_>) -> Result<(Op, Lines<'_>), AsmFault>
+fn op_at<'a>(
+    alloc: Global,
+    shelf: &mut OpShelf,
+    k: u64,
+    lines: Lines<'a>,
+) -> Result<(Op, Lines<'a>), AsmFault>
     requires { IsNumbered lines }
     ensures exact { GivesAt (λ x. (x.0, unread x.1)) result (line_at (op_line k) (unread lines.entry)) }
     ensures numbered { IfOk result (λ x. IsNumbered x.1) }
 {
     let (line, rest) = take_line(lines)?;
-    match op(alloc, k, line) {
+    match op(alloc, shelf, k, line) {
         Ok(op) => Ok((op, rest)),
         Err(OpFault::Refused { kind }) => Err(refused(lines.number, kind)),
         Err(OpFault::NoMemory) => Err(AsmFault::NoMemory),
     }
 }
 
-// So many lines of operations.
+// So many lines of operations. Equal ones that move ions share their memory.
 fn ops_at(alloc: Global, count: u64, lines: Lines<'_>) -> Result<(Vec<Op>, Lines<'_>), AsmFault>
     requires { IsNumbered lines }
     ensures exact { GivesAt (λ x. (x.0.items, unread x.1)) result (numbered op_line count 0 (unread lines.entry)) }
     ensures numbered { IfOk result (λ x. IsNumbered x.1) }
 {
+    let mut shelf = OpShelf::of(alloc)?;
     let mut ops = Vec::new(alloc);
     let mut left = lines;
     for k in 0..count {
-        let (op, rest) = op_at(alloc, k, left)?;
+        let (op, rest) = op_at(alloc, &mut shelf, k, left)?;
         ops.push(op)?;
         left = rest;
     }

@@ -3,5 +3,5 @@ use Rattle.transport_asm.specs.Cursor.{words_left}
 use Rattle.transport_asm.proofs.OpReading.{read_is_op}
 use Rattle.transport_asm.proofs.ops.op_of.Goals as goal
 
-pub of-requires : goal.of-requires
-of-requires c = read_is_op (words_left (option_copied c.args.words)) c.in_ok-kind.kind c.in_ok-kind.ensures
+pub op-requires : goal.op-requires
+op-requires c = read_is_op (words_left (option_copied c.args.words)) c.in_ok-kind.kind c.in_ok-kind.ensures

@@ -8,7 +8,7 @@ use Rattle.transport_asm.proofs.programs.ops_at.Goals as goal
 
 pub returns-in_err-op-clause-exact : goal.returns-in_err-op-clause-exact
 returns-in_err-op-clause-exact c =
-    let p = err_from_is_err_and c.from_residual.result c.from_residual.ensures.1 in
+    let p = err_from_is_err_and c.from_residual-in_err-op.result c.from_residual-in_err-op.ensures.1 in
     rw (p.1, p.2) (ends op_line c.in_err-op.field-0.0 c.loop-k.ops.items c.args.count c.loop-k.k (unread c.loop-k.left) (numbered op_line c.args.count 0 (unread c.args.lines)) c.loop-k-test.true c.in_err-op.ensures.exact c.loop-k.invariant.so_far)
 
 pub loop-k-preserved : goal.loop-k-preserved
