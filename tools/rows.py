@@ -1,0 +1,127 @@
+"""What one circuit costs on one machine, as a row, and many such rows made side by side.
+
+Used by tools/compare and tools/study; neither proved nor part of the program.
+"""
+import concurrent.futures
+import os
+import re
+import subprocess
+import sys
+
+TOP = os.path.dirname(os.path.dirname(os.path.abspath(__file__)))
+SWAPS = {"ion": ["ion"], "gate": ["gate"], "both": ["ion", "gate"]}
+FIELDS = ["machine", "swap", "status", "operations", "splits", "moves", "crossings", "merges", "rots", "gate_swaps",
+          "gates", "heat", "hottest_heat", "hottest_trap", "finish", "message"]
+# Which kind of operation each of these fields counts, by its name in a report. An ion that crosses a junction enters it once.
+COUNTED = {"splits": "split", "moves": "move", "crossings": "enter", "merges": "merge", "rots": "rot",
+           "gate_swaps": "gswap"}
+
+
+def program():
+    """The program's file: the environment's QCCD, or the script at the top of the repository."""
+    return os.environ.get("QCCD") or os.path.join(TOP, "qccd")
+
+
+def is_ready():
+    """Whether the program runs. Where it isn't built yet, this builds it, once and not in each row."""
+    words = [program(), "run", "@single:2", os.path.join(TOP, "examples", "bell.qasm")]
+    try:
+        return subprocess.run(words, stdin=subprocess.DEVNULL, stdout=subprocess.DEVNULL).returncode == 0
+    except OSError:
+        return False
+
+
+def machines_of(word):
+    """The machines that a word stands for: each capacity of a range as `@L6:2-32`, and any other word for itself. None
+    where the range is empty or not within 2 to 32."""
+    found = re.fullmatch(r"(@[^:]*):([0-9]+)-([0-9]+)", word)
+    if not found:
+        return [word]
+    least, most = int(found.group(2)), int(found.group(3))
+    if not 2 <= least <= most <= 32:
+        return None
+    return [f"{found.group(1)}:{capacity}" for capacity in range(least, most + 1)]
+
+
+def costs_of(lines):
+    """The fields that the lines of a report give."""
+    row = {"heat": 0}
+    for line in lines:
+        words = line.split()
+        if words[0] == "ops":
+            row["operations"] = int(words[1])
+        elif words[0] == "end":
+            heat = int(words[words.index("heat") + 1])
+            row["heat"] += heat
+            if words[1].startswith("T") and heat > row.get("hottest_heat", -1):
+                row["hottest_heat"], row["hottest_trap"] = heat, words[1]
+        elif words[0] == "counts":
+            counts = dict(zip(words[1::2], map(int, words[2::2])))
+            row.update({field: counts[kind] for field, kind in COUNTED.items()})
+            row["gates"] = counts["gate1"] + counts["gate2"]
+        elif words[0] == "finish":
+            row["finish"] = int(words[1])
+    return row
+
+
+def message_of(status, text):
+    """Why there is no report, in a line."""
+    if status == 2:
+        return "no such machine"
+    if status < 0:
+        return f"ended by signal {-status}"
+    return text.split("\n")[0]
+
+
+def row_of(circuit, machine, swap):
+    """The row of a circuit's file on a machine: its costs, or the status and the message of the refusal."""
+    words = [program(), "run", machine, circuit, "--swap", swap]
+    with subprocess.Popen(words, stdin=subprocess.DEVNULL, stdout=subprocess.PIPE, stderr=subprocess.PIPE) as process:
+        lines = [line.decode() for line in process.stdout if not line[:1].isdigit()]
+        text = process.stderr.read().decode(errors="replace")
+    status = process.returncode
+    row = {"machine": machine, "swap": swap, "status": status, "message": ""}
+    if status == 0:
+        row.update(costs_of(lines))
+    else:
+        row["message"] = message_of(status, text)
+    return row
+
+
+class Progress:
+    """A line on standard error that says how many rows are made; only where that is a terminal."""
+
+    def __init__(self, total):
+        self.total = total
+        self.made = 0
+        self.tells = sys.stderr.isatty()
+
+    def one_more(self, _row):
+        """Counts a row that was made."""
+        self.made += 1
+        if self.tells:
+            sys.stderr.write(f"\r\033[K{self.made} of {self.total} rows")
+            sys.stderr.flush()
+
+    def clear(self):
+        """Takes the line away, so that other lines can be written."""
+        if self.tells:
+            sys.stderr.write("\r\033[K")
+            sys.stderr.flush()
+
+
+def rows_of(jobs):
+    """The rows of jobs (circuit, machine, swap), in their order. They are made on all processors."""
+    progress = Progress(len(jobs))
+    with concurrent.futures.ThreadPoolExecutor(len(os.sched_getaffinity(0))) as pool:
+        futures = [pool.submit(row_of, *job) for job in jobs]
+        try:
+            for future in futures:
+                future.add_done_callback(progress.one_more)
+            for future in futures:
+                row = future.result()
+                progress.clear()
+                yield row
+        finally:
+            for future in futures:
+                future.cancel()
