@@ -9,6 +9,7 @@ import subprocess
 import sys
 
 TOP = os.path.dirname(os.path.dirname(os.path.abspath(__file__)))
+BUILT = os.path.join(TOP, "crates", "qccd", "out", "qccd")
 SWAPS = {"ion": ["ion"], "gate": ["gate"], "both": ["ion", "gate"]}
 FIELDS = ["machine", "swap", "status", "operations", "splits", "moves", "crossings", "merges", "rots", "gate_swaps",
           "gates", "heat", "hottest_heat", "hottest_trap", "finish", "message"]
@@ -22,13 +23,18 @@ def program():
     return os.environ.get("QCCD") or os.path.join(TOP, "qccd")
 
 
-def is_ready():
-    """Whether the program runs. Where it isn't built yet, this builds it, once and not in each row."""
-    words = [program(), "run", "@single:2", os.path.join(TOP, "examples", "bell.qasm")]
+def why_not_ready():
+    """Why no row can be made, in a line, or None. A program that isn't built is not built here: that takes long, and
+    nobody asked for it."""
+    chosen = program()
+    if chosen == os.path.join(TOP, "qccd") and not os.path.exists(BUILT):
+        return "the program is not built yet: call ./qccd run first, or name a program by QCCD"
+    words = [chosen, "run", "@single:2", os.path.join(TOP, "examples", "bell.qasm")]
     try:
-        return subprocess.run(words, stdin=subprocess.DEVNULL, stdout=subprocess.DEVNULL).returncode == 0
+        answer = subprocess.run(words, stdin=subprocess.DEVNULL, stdout=subprocess.DEVNULL)
     except OSError:
-        return False
+        return f"cannot run {chosen}"
+    return None if answer.returncode == 0 else f"{chosen} does not run"
 
 
 def machines_of(word):
