@@ -94,40 +94,29 @@ def row_of(circuit, machine, swap):
     return row
 
 
-class Progress:
-    """A line on standard error that says how many rows are made; only where that is a terminal."""
-
-    def __init__(self, total):
-        self.total = total
-        self.made = 0
-        self.tells = sys.stderr.isatty()
-
-    def one_more(self, _row):
-        """Counts a row that was made."""
-        self.made += 1
-        if self.tells:
-            sys.stderr.write(f"\r\033[K{self.made} of {self.total} rows")
-            sys.stderr.flush()
-
-    def clear(self):
-        """Takes the line away, so that other lines can be written."""
-        if self.tells:
-            sys.stderr.write("\r\033[K")
-            sys.stderr.flush()
+def tell_progress(text):
+    """Writes the text in the place of the one before, on standard error; only where that is a terminal."""
+    if sys.stderr.isatty():
+        sys.stderr.write("\r\033[K" + text)
+        sys.stderr.flush()
 
 
 def rows_of(jobs):
-    """The rows of jobs (circuit, machine, swap), in their order. They are made on all processors."""
-    progress = Progress(len(jobs))
+    """The rows of jobs (circuit, machine, swap), in their order. They are made on all processors, and each is given as soon
+    as those before it were."""
+    ready = {}
+    given = 0
     with concurrent.futures.ThreadPoolExecutor(len(os.sched_getaffinity(0))) as pool:
-        futures = [pool.submit(row_of, *job) for job in jobs]
+        places = {pool.submit(row_of, *job): place for place, job in enumerate(jobs)}
         try:
-            for future in futures:
-                future.add_done_callback(progress.one_more)
-            for future in futures:
-                row = future.result()
-                progress.clear()
-                yield row
+            for made, future in enumerate(concurrent.futures.as_completed(places), 1):
+                ready[places[future]] = future.result()
+                tell_progress("")
+                while given in ready:
+                    yield ready.pop(given)
+                    given += 1
+                tell_progress(f"{made} of {len(jobs)} rows")
         finally:
-            for future in futures:
+            tell_progress("")
+            for future in places:
                 future.cancel()
