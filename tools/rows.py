@@ -13,7 +13,8 @@ BUILT = os.path.join(TOP, "crates", "qccd", "out", "qccd")
 SWAPS = {"ion": ["ion"], "gate": ["gate"], "both": ["ion", "gate"]}
 FIELDS = ["machine", "swap", "status", "operations", "splits", "moves", "crossings", "merges", "rots", "gate_swaps",
           "gates", "heat", "hottest_heat", "hottest_trap", "finish", "message"]
-# Which kind of operation each of these fields counts, by its name in a report. An ion that crosses a junction enters it once.
+# Which kind of operation each of these fields counts, by its name in a report. An ion that crosses a junction enters
+# it once.
 COUNTED = {"splits": "split", "moves": "move", "crossings": "enter", "merges": "merge", "rots": "rot",
            "gate_swaps": "gswap"}
 
@@ -102,8 +103,8 @@ def tell_progress(text):
 
 
 def rows_of(jobs):
-    """The rows of jobs (circuit, machine, swap), in their order. They are made on all processors, and each is given as soon
-    as those before it were."""
+    """The rows of jobs (circuit, machine, swap), in their order. They are made on all processors, and each is given as
+    soon as those before it were."""
     ready = {}
     given = 0
     with concurrent.futures.ThreadPoolExecutor(len(os.sched_getaffinity(0))) as pool:
