@@ -2,9 +2,11 @@
 use Rattle.std.proofs.Common.{◌≡◌, ℕ, zero, suc, ◌+◌, ◌<◌, ◌≤◌, ◌^◌, true, List, [], ◌∷◌, length, map, take, get_or, refl, sym, ◌∙◌, ap, subst, arith, Option, Some, None}
 use Rattle.std.specs.List.{AllByRecursion}
 use Rattle.std.specs.Prelude.{slice_get}
+use Rattle.std.proofs.lemmas.List.{with_items_is}
 use Rattle.std.proofs.lemmas.List.Elements.{All-from_recursion, recursion_from_All}
+use Rattle.std.proofs.lemmas.Option.{slice_get-get_or}
 use Rattle.qccd_base.specs.declared.names.Res.{Res}
-use Rattle.qccd_machine.specs.Machine.{IsValid}
+use Rattle.qccd_machine.specs.Machine.{IsValid, MachineData}
 use Rattle.op_table.specs.declared.kinds.OpKind.{OpKind}
 use Rattle.op_table.specs.declared.contents.Content.{Content}
 use Rattle.op_table.specs.Act.{why_on}
@@ -21,8 +23,12 @@ use Rattle.qccd_program.proofs.MeetsCells.{meets-cells}
 use Rattle.claim_core.specs.Event.{touched}
 use Rattle.claim_core.proofs.Legally.{touched_at}
 use Rattle.qccd_base.proofs.Resources.{same_res-own}
+use Rattle.claim_board.specs.declared.pass.Pass.{Pass}
 use Rattle.claim_board.specs.Applied.{Applied, MayApply}
+use Rattle.claim_board.specs.Deck.{HoldsNext, cells_of, view_of}
+use Rattle.claim_board.specs.Lent.{with_cells}
 use Rattle.claim_board.specs.Pass.{AreCells, next_turn}
+use Rattle.claim_board.proofs.Handing.{map-long}
 
 data_is : (p : ProgramData) (r : Res) (n : ℕ) (h : Held) → IsCell p r n h.cell → data_of h.cell ≡ cell_at p r n
 data_is p r n h is = λ i. record { content = is.content i; clock = is.clock i; log = is.log i }
@@ -104,3 +110,25 @@ applied-next p k op old new valid legal is are did =
       names = did.names ∙ are.names;
       cells = All-from_recursion (λ (h : Held). IsCell p h.res (next_turn p k h.res) h.cell) new (rebuilt p (next_turn p k) (nth p.ops k) old new did.names did.room next all);
     }
+
+-- the same for a machine and operations that were read off the program, and cells that were read off the pass
+got_cells : (p q : ProgramData) (k : ℕ) (got held : List Held) → q ≡ p → held ≡ got → AreCells q (nth q.ops k) (touched q.ops k) got → AreCells p (nth p.ops k) (touched p.ops k) held
+got_cells p q k got held same is are =
+    subst (AreCells p (nth p.ops k) (touched p.ops k)) (sym is) (subst (λ (x : ProgramData). AreCells x (nth x.ops k) (touched x.ops k) got) same are)
+
+read_op : (p : ProgramData) (ops : List OpKind) (k : ℕ) (op : OpKind) → ops ≡ p.ops → op ≡ get_or ops k op → k < length p.ops → slice_get p.ops k ≡ Some op
+read_op p ops k op listed is less = slice_get-get_or p.ops k op less ∙ ap Some (sym (is ∙ ap (λ (os : List OpKind). get_or os k op) listed))
+
+pub may-apply-read : (p q : ProgramData) (m : MachineData) (ops : List OpKind) (k : ℕ) (op : OpKind) (got held : List Held) → q ≡ p → m ≡ p.machine → ops ≡ p.ops → held ≡ got → IsValid p.machine → IsLegalProgram p
+    → op ≡ get_or ops k op → k < length p.ops → AreCells q (nth q.ops k) (touched q.ops k) got → MayApply m op held
+may-apply-read p q m ops k op got held same machine listed is valid legal at less are =
+    subst (λ (n : MachineData). MayApply n op held) (sym machine) (may-apply p k op held valid legal (read_op p ops k op listed at less) (got_cells p q k got held same is are))
+
+pub holds-applied : (p q : ProgramData) (m : MachineData) (ops : List OpKind) (k : ℕ) (op : OpKind) (s : Pass) (held new : List Held) → q ≡ p → m ≡ p.machine → ops ≡ p.ops → held ≡ cells_of s → IsValid p.machine → IsLegalProgram p
+    → op ≡ get_or ops k op → k < length p.ops → AreCells q (nth q.ops k) (touched q.ops k) (cells_of s) → (view_of s).op ≡ Some k → Applied m k op held new → HoldsNext p (with_cells s new)
+holds-applied p q m ops k op s held new same machine listed is valid legal at less are hand did =
+    let here : Applied p.machine k op held new = subst (λ (n : MachineData). Applied n k op held new) machine did in
+    let next = applied-next p k op held new valid legal (read_op p ops k op listed at less) (got_cells p q k (cells_of s) held same is are) here in
+    let long : length new ≡ s.cells.len =
+    sym (map-long (λ (h : Held). h.res) new) ∙ ap (λ (rs : List Res). length rs) here.names ∙ map-long (λ (h : Held). h.res) held ∙ ap (λ (hs : List Held). length hs) is ∙ sym s.cells.ok.0 in
+    record { op = k; hand = hand; cells = subst (AreCells p (next_turn p k) (touched p.ops k)) (sym (with_items_is s.cells new long)) next }

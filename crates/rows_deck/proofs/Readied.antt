@@ -1,6 +1,6 @@
 -- Passes as they are dealt, between two claims, and when the deck is closed.
 use Rattle.std.proofs.Common.{◌≡◌, ℕ, zero, suc, ◌+◌, ◌<◌, List, [], ◌∷◌, length, get_or, refl, sym, ◌∙◌, ap, subst, arith, Some, Ok, Err, IfOk, Result, Vec, Global}
-use Rattle.std.specs.Prelude.{slice_get}
+use Rattle.std.proofs.lemmas.Option.{slice_get-get_or}
 use Rattle.qccd_base.specs.declared.names.NoMemory.{NoMemory}
 use Rattle.claim_board.specs.declared.deck.Deck.{Deck}
 use Rattle.claim_board.specs.declared.pass.Pass.{Pass}
@@ -27,14 +27,6 @@ pub ready-answer : (p : ProgramData) (w : ℕ) (answer : Result (Deck × Vec Pas
 ready-answer p w (Ok r) deck passes = ready-dealt r.0 p r.1.items deck.0 (passes.0 ∙ sym deck.1) passes.1
 ready-answer p w (Err e) deck passes = tt
 
-stands_at : {A : Type 0} (qs : List A) (k : ℕ) (d : A) → k < length qs → slice_get qs k ≡ Some (get_or qs k d)
-stands_at [] k d less = absurd (omega arith)
-stands_at (q ∷ qs) zero d less = refl
-stands_at (q ∷ qs) (suc k) d less = stands_at qs k d (omega (arith, less))
-
-pub item-at : {A : Type 0} (xs : List A) (k : ℕ) (x : A) → k < length xs → x ≡ get_or xs k x → slice_get xs k ≡ Some x
-item-at xs k x less is = stands_at xs k x less ∙ ap Some (sym is)
-
 first_of : (qs : List Pass) (n : ℕ) → n < length qs → Pass
 first_of [] n less = absurd (omega arith)
 first_of (q ∷ qs) n less = q
@@ -47,5 +39,5 @@ all-ready deck p qs h = record {
   all = λ n less.
       let below : n < length qs = omega (arith, less, h.long) in
       let d : Pass = first_of qs n below in
-      (n, get_or qs n d, stands_at qs n d below, (h.at n d below).1);
+      (n, get_or qs n d, slice_get-get_or qs n d below, (h.at n d below).1);
 }

@@ -1,0 +1,4 @@
+pub mod Kind
+pub mod Sweep
+pub mod Window
+pub mod Worker
