@@ -1,10 +1,10 @@
 -- Both workers' passes, when the deck is closed.
-use Rattle.std.proofs.Common.{◌≡◌, ℕ, zero, suc, ◌+◌, ◌<◌, List, [], ◌∷◌, length, refl, sym, ◌∙◌, ap, subst, arith, Some}
+use Rattle.std.proofs.Common.{◌≡◌, ℕ, zero, suc, ◌<◌, List, [], ◌∷◌, refl, sym, ◌∙◌, ap, subst, arith, Some}
 use Rattle.std.specs.Prelude.{slice_get}
 use Rattle.std.proofs.lemmas.List.Elements.{All-from_recursion}
 use Rattle.claim_board.specs.declared.deck.Deck.{Deck}
 use Rattle.claim_board.specs.declared.pass.Pass.{Pass}
-use Rattle.claim_board.specs.Deck.{AreAll, IsEmpty, Together, program_of, view_of, workers_of}
+use Rattle.claim_board.specs.Deck.{AreAll, IsEmpty, Together, program_of, view_of}
 use Rattle.qccd_program.specs.Program.{ProgramData}
 use Rattle.workers.specs.declared.worker.Worker.{Worker}
 use Rattle.workers.specs.Worker.{pass_of}

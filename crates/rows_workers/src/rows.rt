@@ -96,7 +96,9 @@ fn worked(
     let cells = closed(alloc, deck, program, first, second)?.cells;
     let same = compared(alloc, program, &cells)?;
     let clock = clock(&cells);
-    Ok(format!(in alloc; "{answers} told {by_first} and {by_second}, sum {sum}, clock {clock}, {same}")?)
+    Ok(format!(in alloc;
+        "{answers} told {by_first} and {by_second}, sum {sum}, clock {clock}, {same}"
+    )?)
 }
 
 /// The answer to a row.

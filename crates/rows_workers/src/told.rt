@@ -33,7 +33,11 @@ impl Told {
 
 impl Post for Told {
     fn at(&self, worker: u32, op: u32) {
-        let count = if worker == 0 { &self.first } else { &self.second };
+        let count = if worker == 0 {
+            &self.first
+        } else {
+            &self.second
+        };
         count.fetch_add(1, Ordering::SeqCst);
         self.sum.fetch_add(u64::from(op), Ordering::SeqCst);
     }

@@ -1,6 +1,5 @@
 -- What a pass keeps while its worker works.
-use Rattle.std.proofs.Common.{◌≡◌, ℕ, ◌+◌, ◌<◌, ◌≤◌, true, List, get_or, length, refl, sym, ◌∙◌, ap, subst, arith, Some}
-use Rattle.std.specs.Prelude.{slice_get}
+use Rattle.std.proofs.Common.{◌≡◌, ℕ, ◌+◌, ◌<◌, true, refl, sym, ◌∙◌, subst, arith}
 use Rattle.qccd_base.specs.declared.names.Res.{Res}
 use Rattle.qccd_base.specs.Resource.{among}
 use Rattle.qccd_program.specs.Program.{ProgramData}
@@ -8,7 +7,6 @@ use Rattle.claim_core.specs.Board.{is_there}
 use Rattle.claim_core.specs.Event.{touched}
 use Rattle.claim_board.specs.declared.view.View.{View}
 use Rattle.claim_board.specs.Pass.{Kept}
-use Rattle.claim_board.specs.View.{seen_of}
 use Rattle.workers.specs.Sweep.{HasSeenPast, HasWorked}
 
 pub there-moved : (p q : ProgramData) (r : Res) → q ≡ p → is_there p r ≡ true → is_there q r ≡ true

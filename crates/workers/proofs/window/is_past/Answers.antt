@@ -1,8 +1,8 @@
-use Rattle.std.proofs.Common.{◌≡◌, arith}
+use Rattle.std.proofs.Common.{arith}
 use Rattle.qccd_base.specs.Names.{trap}
 use Rattle.qccd_base.specs.declared.names.Res.TheVariants as res
 use Rattle.std.specs.Prelude.{slice_index_or}
-use Rattle.workers.proofs.Reading.{Reads, reads-at}
+use Rattle.workers.proofs.Reading.{reads-at}
 use Rattle.workers.proofs.Working.{there-moved}
 use Rattle.workers.proofs.window.is_past.Goals as goal
 
