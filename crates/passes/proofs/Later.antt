@@ -1,0 +1,116 @@
+-- Operations that are done without some others finish no later.
+use Rattle.std.proofs.Common.{arith, ◌≡◌, ℕ, suc, max, ◌+◌, ◌≤◌, Bool, true, false, if◌then◌else◌, List, [], ◌∷◌, ◌++◌, map, reverse, refl, sym, ◌∙◌, ap, subst, Option, Some, None, slice_get, unwrap_or}
+use Rattle.std.specs.List.{enumerate_from}
+use Rattle.std.proofs.lemmas.List.{append-nil}
+use Rattle.std.proofs.lemmas.Option.{same_Some}
+use Rattle.qccd_base.specs.Greatest.{greatest}
+use Rattle.qccd_base.specs.Resource.{among}
+use Rattle.qccd_base.specs.declared.names.Res.{Res}
+use Rattle.qccd_machine.specs.Machine.{MachineData}
+use Rattle.op_table.specs.declared.kinds.OpKind.{OpKind}
+use Rattle.op_table.specs.Clock.{Timed, timed, timed_from, timed_after}
+use Rattle.op_table.specs.Touch.{touches}
+use Rattle.qccd_program.proofs.Clocks.{clock_after, start-clocks}
+use Rattle.qccd_program.specs.Program.{ProgramData}
+use Rattle.passes.specs.Tidy.{Numbered, left_by, staying, tidied, swept}
+use Rattle.passes.specs.Kept.{FinishNoLater}
+use Rattle.passes.proofs.Removing.{left_is, seen_left, seen_whole, turned, staying_is}
+use Rattle.passes.proofs.Keeping.{kinds}
+
+-- some of a list, in its order
+pub data IsPart : List Numbered → List Numbered → Type 0 where
+  ends : IsPart [] []
+  stays : (e : Numbered) (some all : List Numbered) → IsPart some all → IsPart (e ∷ some) (e ∷ all)
+  goes : (e : Numbered) (some all : List Numbered) → IsPart some all → IsPart some (e ∷ all)
+
+pub part_own : (xs : List Numbered) → IsPart xs xs
+part_own [] = ends
+part_own (x ∷ xs) = stays x xs xs (part_own xs)
+
+part_part : (xs ys zs : List Numbered) → IsPart xs ys → IsPart ys zs → IsPart xs zs
+part_part xs ys zs p ends = p
+part_part xs ys zs p (goes e some all q) = goes e xs all (part_part xs some all p q)
+part_part xs ys zs (stays d more some p) (stays e mid all q) = stays e more all (part_part more mid all p q)
+part_part xs ys zs (goes d more some p) (stays e mid all q) = goes e more all (part_part more mid all p q)
+
+part_behind : (front xs ys : List Numbered) → IsPart xs ys → IsPart (front ++ xs) (front ++ ys)
+part_behind [] xs ys p = p
+part_behind (x ∷ front) xs ys p = stays x (front ++ xs) (front ++ ys) (part_behind front xs ys p)
+
+pub part_fewer : (front middle back : List Numbered) (a b : Numbered) → IsPart (front ++ (middle ++ back)) (front ++ (a ∷ middle ++ b ∷ back))
+part_fewer front middle back a b =
+    part_behind front (middle ++ back) (a ∷ middle ++ b ∷ back) (goes a (middle ++ back) (middle ++ b ∷ back) (part_behind middle back (b ∷ back) (goes b back back (part_own back))))
+
+part_swept : (earlier ops : List Numbered) → IsPart (reverse (swept earlier ops)) (reverse earlier ++ ops)
+part_swept earlier [] = subst (IsPart (reverse earlier)) (sym (append-nil (reverse earlier))) (part_own (reverse earlier))
+part_swept earlier (b ∷ ops) = by_left (λ xs. part_swept xs ops) (left_by b earlier) refl
+  where
+    by_left : ((xs : List Numbered) → IsPart (reverse (swept xs ops)) (reverse xs ++ ops)) → (o : Option (List Numbered)) → left_by b earlier ≡ o → IsPart (reverse (swept (unwrap_or o (b ∷ earlier)) ops)) (reverse earlier ++ b ∷ ops)
+    by_left next None h = subst (IsPart (reverse (swept (b ∷ earlier) ops))) (turned b earlier ops) (next (b ∷ earlier))
+    by_left next (Some xs) h =
+        let l = left_is b earlier xs h in
+        part_part (reverse (swept xs ops)) (reverse xs ++ ops) (reverse earlier ++ b ∷ ops) (next xs)
+        (subst (λ (v : List Numbered). IsPart v (reverse earlier ++ b ∷ ops)) (sym (seen_left b earlier xs ops l))
+        (subst (IsPart (reverse l.older ++ (reverse l.recent ++ ops))) (sym (seen_whole b earlier xs (b ∷ ops) l)) (part_fewer (reverse l.older) (reverse l.recent) ops l.a b)))
+
+pub part_staying : (ops : List OpKind) → IsPart (staying ops) (enumerate_from 0 ops)
+part_staying ops = subst (λ (v : List Numbered). IsPart v (enumerate_from 0 ops)) (sym (staying_is ops)) (part_swept [] (enumerate_from 0 ops))
+
+-- ---- clocks
+
+-- no clock of the one is later than that of the other
+abbrev pub NoLater : List Timed → List Timed → Type 0
+NoLater new old = (r : Res) → clock_after new r ≤ clock_after old r
+
+greatest_less : (f g : Res → ℕ) (rs : List Res) → ((r : Res) → f r ≤ g r) → greatest (map f rs) ≤ greatest (map g rs)
+greatest_less f g [] less = omega arith
+greatest_less f g (r ∷ rs) less = omega (arith, less r, greatest_less f g rs less)
+
+finish_less : (m : MachineData) (new old : List Timed) (op : OpKind) → NoLater new old → (timed_after m new op).finish ≤ (timed_after m old op).finish
+finish_less m new old op less =
+    omega (arith, start-clocks new op, start-clocks old op, greatest_less (clock_after new) (clock_after old) (touches op) less)
+
+step_less : (b : Bool) (x y c d : ℕ) → x ≤ y → c ≤ d → (if b then max x c else c) ≤ (if b then max y d else d)
+step_less true x y c d h k = omega (arith, h, k)
+step_less false x y c d h k = k
+
+more_less : (b : Bool) (y c d : ℕ) → c ≤ d → c ≤ (if b then max y d else d)
+more_less true y c d k = omega (arith, k)
+more_less false y c d k = k
+
+-- old k j stands for the j-th of the earlier list's times from number k on
+pub no_later : (m : MachineData) (old : List Timed) (k : ℕ) (now was : List Timed) (some : List Numbered) (ops : List OpKind) → NoLater now was → IsPart some (enumerate_from k ops)
+    → ((j : ℕ) → slice_get old (k + j) ≡ slice_get (timed_from m was ops) j) → FinishNoLater old some (timed_from m now (kinds some))
+no_later m old k now was some [] less part there = none some part
+  where
+    none : (some : List Numbered) → IsPart some [] → FinishNoLater old some (timed_from m now (kinds some))
+    none some ends = tt
+no_later m old k now was some (op ∷ ops) less part there = by_part (λ n w xs l p t. no_later m old (k + 1) n w xs ops l p t) some part
+  where
+    next : (j : ℕ) → slice_get old (k + 1 + j) ≡ slice_get (timed_from m (timed_after m was op ∷ was) ops) j
+    next j = ap (slice_get old) (plus k j) ∙ there (suc j)
+      where
+        plus : (k j : ℕ) → k + 1 + j ≡ k + suc j
+        plus k j = omega arith
+
+    first : slice_get old k ≡ Some (timed_after m was op)
+    first = ap (slice_get old) (zero_more k) ∙ there 0
+      where
+        zero_more : (k : ℕ) → k ≡ k + 0
+        zero_more k = omega arith
+
+    by_part : ((now was : List Timed) (some : List Numbered) → NoLater now was → IsPart some (enumerate_from (k + 1) ops) → ((j : ℕ) → slice_get old (k + 1 + j) ≡ slice_get (timed_from m was ops) j) → FinishNoLater old some (timed_from m now (kinds some))) → (some : List Numbered) → IsPart some ((k, op) ∷ enumerate_from (k + 1) ops) → FinishNoLater old some (timed_from m now (kinds some))
+    by_part later some (goes e more all p) = later now (timed_after m was op ∷ was) some (λ r. more_less (among (touches op) r) (timed_after m was op).finish (clock_after now r) (clock_after was r) (less r)) p next
+    by_part later some (stays e more all p) =
+        let mine : (timed_after m now op).finish ≤ (timed_after m was op).finish = finish_less m now was op less in
+        (
+          λ (t : Timed) (is : slice_get old k ≡ Some t). subst (λ (x : Timed). (timed_after m now op).finish ≤ x.finish) (same_Some (timed_after m was op) t (sym first ∙ is)) mine,
+          later (timed_after m now op ∷ now) (timed_after m was op ∷ was) more
+          (λ r. step_less (among (touches op) r) (timed_after m now op).finish (timed_after m was op).finish (clock_after now r) (clock_after was r) mine (less r)) p next,
+        )
+
+pub tidied_no_later : (p : ProgramData) → FinishNoLater (timed p.machine p.ops) (staying p.ops) (timed p.machine (tidied p).ops)
+tidied_no_later p = no_later p.machine (timed p.machine p.ops) 0 [] [] (staying p.ops) p.ops (λ r. omega arith) (part_staying p.ops) (λ j. ap (slice_get (timed p.machine p.ops)) (zero_plus j))
+  where
+    zero_plus : (j : ℕ) → 0 + j ≡ j
+    zero_plus j = omega arith
