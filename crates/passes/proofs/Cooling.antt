@@ -15,8 +15,8 @@ use Rattle.op_plan.specs.Cold.{cold}
 use Rattle.op_table.proofs.Openings.{opening-safe}
 use Rattle.qccd_program.specs.Legal.{IsLegalProgram}
 use Rattle.qccd_program.specs.Program.{ProgramData, opening_of, end_of}
-use Rattle.passes.specs.Cool.{gate_trap, if_hot, hot_trap, rested, ready, cooled_after, cooled_end}
-use Rattle.passes.specs.Kept.{SameStands, BeginCool}
+use Rattle.passes.specs.Cool.{BeginCool, gate_trap, if_hot, hot_trap, rested, ready, cooled_after, cooled_end}
+use Rattle.passes.specs.Kept.{SameStands}
 use Rattle.passes.proofs.Stands.{stands_legal, stands_step}
 
 set_read : (hs : List ℕ) (t h : ℕ) → get_or (set hs t 0) t 0 ≤ 0

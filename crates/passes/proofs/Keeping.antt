@@ -1,5 +1,5 @@
 -- What stays when pairs are taken away.
-use Rattle.std.proofs.Common.{arith, ◌≡◌, ℕ, zero, suc, ◌≤◌, ◌+◌, Bool, true, false, List, [], ◌∷◌, ◌++◌, map, reverse, length, refl, sym, ◌∙◌, ap, ap₂, subst, Option, Some, None, option_map, unwrap_or, append_assoc, length-append}
+use Rattle.std.proofs.Common.{arith, ◌≡◌, ℕ, zero, suc, ◌≤◌, ◌+◌, Bool, true, false, List, [], ◌∷◌, ◌++◌, map, reverse, length, refl, sym, ◌∙◌, ap, ap₂, subst, Option, Some, None, option_map, unwrap_or, Result, Ok, Err, IfOk, append_assoc, length-append}
 use Rattle.std.specs.Prelude.{filter_map}
 use Rattle.std.specs.List.{AllByRecursion, enumerate_from}
 use Rattle.std.proofs.lemmas.Bool.{false≢true}
@@ -23,7 +23,8 @@ use Rattle.qccd_program.proofs.Runs.{run_safe}
 use Rattle.op_plan.specs.Cold.{cold}
 use Rattle.passes.specs.Undo.{undoes}
 use Rattle.passes.specs.Kept.{SameStands}
-use Rattle.passes.specs.Tidy.{Numbered, left_by, tidied, swept}
+use Rattle.passes.specs.Tidy.{Numbered, kinds, left_by, tidied}
+use Rattle.passes.specs.Swept.{swept}
 use Rattle.passes.proofs.Undone.{inverse, undone_is}
 use Rattle.passes.proofs.Stands.{pair_gone}
 use Rattle.passes.proofs.Removing.{left_is, all_turned, seen_left, seen_whole, turned, staying_is}
@@ -49,9 +50,6 @@ all_fewer P front middle back a b all =
     (all_both P middle back (all_front P middle (b ∷ back) behind.1) (all_back P middle (b ∷ back) behind.1).1)
 
 -- ---- what a list keeps that has fewer operations
-
-abbrev pub kinds : List Numbered → List OpKind
-kinds ops = map (λ e. e.1) ops
 
 pub record Keeps (m : MachineData) (s : State) (old new : List OpKind) : Type 0 where
   pub ops : AllByRecursion IsOp new
@@ -222,3 +220,12 @@ tidied_implements p c m legal of =
       items = subst (λ (es : List (ℕ × ItemData)). Rattle.std.proofs.Common.All (λ e. Rattle.std.proofs.Common.slice_get c.items e.0 ≡ Some e.1) es) (sym k.items) of.items;
       order = subst (λ (es : List (ℕ × ItemData)). Rattle.qccd_circuit.specs.Order.SameOrder c.items (map (λ e. e.0) es)) (sym k.items) of.order;
     }
+
+-- what holds of the tidied program holds of the one that a call gives
+pub of_tidied : {X : Type 0} (p : ProgramData) (r : Result ProgramData X) (P : ProgramData → Type 0) → P (tidied p) → IfOk r (λ q. q ≡ tidied p) → IfOk r P
+of_tidied p (Ok q) P h is = subst P (sym is) h
+of_tidied p (Err e) P h is = tt
+
+pub ok_as : {X : Type 0} (p q : ProgramData) (r : Result ProgramData X) → q ≡ p → IfOk r (λ x. x ≡ q) → IfOk r (λ x. x ≡ p)
+ok_as p q (Ok x) same is = is ∙ same
+ok_as p q (Err e) same is = tt

@@ -1,18 +1,21 @@
 -- The marks of the pass, and one operation further.
-use Rattle.std.proofs.Common.{arith, ◌≡◌, ℕ, zero, suc, ◌+◌, ◌<◌, ◌≤◌, Bool, true, false, if◌then◌else◌, List, [], ◌∷◌, ◌++◌, map, take, drop, set, get_or, replicate, reverse, length, refl, sym, ◌∙◌, ap, ap₂, subst, Option, Some, None, unwrap_or, slice_get, length-set, length-append}
+use Rattle.std.proofs.Common.{arith, ◌≡◌, ℕ, zero, suc, ◌+◌, ◌<◌, ◌≤◌, Bool, true, false, if◌then◌else◌, List, [], ◌∷◌, ◌++◌, map, take, drop, set, get_or, replicate, reverse, length, refl, sym, ◌∙◌, ap, ap₂, subst, Option, Some, None, unwrap_or, slice_get, length-set, length-append, append_assoc}
 use Rattle.std.specs.List.{AllByRecursion, enumerate_from}
 use Rattle.std.proofs.lemmas.List.{append-nil, reverse-append, take_all}
 use Rattle.std.proofs.lemmas.Option.{same_Some, none-some, slice_get_within}
 use Rattle.qccd_base.specs.Resource.{among}
 use Rattle.qccd_base.proofs.Resources.{all-from_among}
+use Rattle.qccd_base.specs.declared.names.Ion.{Ion}
 use Rattle.qccd_base.specs.declared.names.Res.{Res}
 use Rattle.qccd_machine.specs.Machine.{MachineData}
 use Rattle.op_table.specs.declared.kinds.OpKind.{OpKind}
 use Rattle.op_table.specs.Touch.{touches}
 use Rattle.op_cells.specs.Numbering.{count_of, index_of, IsThere}
 use Rattle.qccd_program.proofs.Tables.{index-within, read-of}
-use Rattle.passes.specs.Tidy.{Numbered, left_by, put, swept, staying, Left}
-use Rattle.passes.specs.Stacks.{AreStacks, pushed, popped, partner_of, kept_in, left_in, swept_to, SweptTo, stacks_with, marks_with}
+use Rattle.qccd_program.specs.Program.{ProgramData, program_data}
+use Rattle.passes.specs.Tidy.{kinds, tidied, Numbered, left_by, staying}
+use Rattle.passes.specs.Swept.{put, swept, Cancels}
+use Rattle.passes.specs.Stacks.{AreStacks, pushed, popped, partner_of, kept_in, kept_one, left_in, swept_to, SweptTo, stacks_with, marks_with}
 use Rattle.passes.proofs.Removing.{cancels_some, left_is, staying_is, seen_whole, seen_left}
 use Rattle.passes.proofs.Stacking.{Sits, partner_none, partner_some, stacks_popped, stacks_pushed, all_without}
 
@@ -123,7 +126,7 @@ numbered_own ops k op is = numbered_more 0 ops k op is ∙ ap (λ (n : ℕ). enu
     zero_plus : (k : ℕ) → 0 + k ≡ k
     zero_plus k = omega arith
 
-left_back : (b : Numbered) (earlier xs : List Numbered) (l : Left b earlier xs) → left_by b earlier ≡ Some xs
+left_back : (b : Numbered) (earlier xs : List Numbered) (l : Cancels b earlier xs) → left_by b earlier ≡ Some xs
 left_back b earlier xs l = ap (left_by b) l.whole ∙ cancels_some b l.a l.recent l.older l.undone l.apart ∙ ap (λ (t : List Numbered). Some t) (sym l.rest)
 
 none_yet : (m : MachineData) → AreStacks m [] (replicate (count_of m 0) [])
@@ -216,3 +219,51 @@ left_kinds c [] ops = refl
 left_kinds c (g ∷ marks) [] = refl
 left_kinds c (true ∷ marks) (x ∷ ops) = left_kinds (c + 1) marks ops
 left_kinds c (false ∷ marks) (x ∷ ops) = ap (λ (l : List OpKind). x ∷ l) (left_kinds (c + 1) marks ops)
+
+-- what is left from one place on is its operation, where it does not go, and what is left behind it
+pub left_next : (k : ℕ) (marks : List Bool) (ops : List OpKind) (op : OpKind) → op ≡ get_or ops k op → k < length ops
+    → left_in (drop k marks) (drop k ops) ≡ kept_one (get_or marks k true) op ++ left_in (drop (suc k) marks) (drop (suc k) ops)
+left_next k marks [] op is less = absurd (omega (arith, less))
+left_next zero [] (x ∷ ops) op is less = refl
+left_next zero (true ∷ marks) (x ∷ ops) op is less = refl
+left_next zero (false ∷ marks) (x ∷ ops) op is less = ap (λ (y : OpKind). y ∷ left_in marks ops) (sym is)
+left_next (suc k) [] (x ∷ ops) op is less = refl
+left_next (suc k) (g ∷ marks) (x ∷ ops) op is less = left_next k marks ops op is (omega (arith, less))
+
+-- the same for a loop over the operations
+pub left_more : (k : ℕ) (marks : List Bool) (ops old new : List OpKind) (op : OpKind) (gone : Bool) → op ≡ get_or ops k op → k < length ops → gone ≡ get_or marks k true → new ≡ old ++ kept_one gone op
+    → old ++ left_in (drop k marks) (drop k ops) ≡ left_in marks ops → new ++ left_in (drop (k + 1) marks) (drop (k + 1) ops) ≡ left_in marks ops
+left_more k marks ops old new op gone is less mark now so_far =
+    ap₂ (λ (l : List OpKind) (j : ℕ). l ++ left_in (drop j marks) (drop j ops)) (now ∙ ap (λ (b : Bool). old ++ kept_one b op) mark) (one_more k)
+    ∙ append_assoc old (kept_one (get_or marks k true) op) (left_in (drop (suc k) marks) (drop (suc k) ops))
+    ∙ ap (λ (l : List OpKind). old ++ l) (sym (left_next k marks ops op is less))
+    ∙ so_far
+  where
+    one_more : (k : ℕ) → k + 1 ≡ suc k
+    one_more k = omega arith
+
+-- the program that the pass leaves
+pub left_program : (p : ProgramData) (gone : List Bool) (ops : List OpKind) → ops ≡ left_in gone p.ops → kept_in gone (enumerate_from 0 p.ops) ≡ staying p.ops → ops ≡ (tidied p).ops
+left_program p gone ops left stays = left ∙ sym (left_kinds 0 gone p.ops) ∙ ap kinds stays
+
+pub parts_left : (p : ProgramData) (machine : MachineData) (qubits bits : ℕ) (start : List (List Ion)) (left ops : List OpKind) (gone marks : List Bool) → machine ≡ p.machine → qubits ≡ p.qubits → bits ≡ p.bits → start ≡ p.start
+    → left ≡ left_in marks ops → marks ≡ gone → ops ≡ p.ops → kept_in gone (enumerate_from 0 p.ops) ≡ staying p.ops → program_data machine qubits bits start left ≡ tidied p
+parts_left p machine qubits bits start left ops gone marks m q b s is same all stays = rw (m, q, b, s, now) refl
+  where
+    now : left ≡ (tidied p).ops
+    now = left_program p gone left (is ∙ ap₂ left_in same all) stays
+
+-- behind the last operation nothing is left
+pub left_all : (k : ℕ) (marks : List Bool) (ops left : List OpKind) → length ops ≤ k → left ++ left_in (drop k marks) (drop k ops) ≡ left_in marks ops → left ≡ left_in marks ops
+left_all k marks ops left past so_far =
+    sym (append-nil left) ∙ sym (ap (λ (l : List OpKind). left ++ l) (ap (left_in (drop k marks)) (dropped k ops past) ∙ nothing (drop k marks))) ∙ so_far
+  where
+    nothing : (marks : List Bool) → left_in marks [] ≡ []
+    nothing [] = refl
+    nothing (g ∷ marks) = refl
+
+    dropped : (k : ℕ) (ops : List OpKind) → length ops ≤ k → drop k ops ≡ []
+    dropped zero [] past = refl
+    dropped (suc k) [] past = refl
+    dropped zero (x ∷ ops) past = absurd (omega (arith, past))
+    dropped (suc k) (x ∷ ops) past = dropped k ops (omega (arith, past))

@@ -17,7 +17,8 @@ use Rattle.op_cells.proofs.InTurn.{index-same}
 use Rattle.op_cells.proofs.Rising.{Rising, rising-ascending}
 use Rattle.qccd_program.proofs.Tables.{index-within, each_apart}
 use Rattle.passes.specs.Undo.{undoes}
-use Rattle.passes.specs.Tidy.{Numbered, left_by, Left}
+use Rattle.passes.specs.Tidy.{Numbered, left_by}
+use Rattle.passes.specs.Swept.{Cancels}
 use Rattle.passes.specs.Stacks.{numbers_on, AreStacks, pushed, popped, top_in, top_at, first_top, is_number, undone_by, only_if, partner_of, IsPartner}
 use Rattle.passes.proofs.Undone.{undone_is, touches_alike}
 use Rattle.passes.proofs.Removing.{left_is}
@@ -117,7 +118,7 @@ none_touch b r (x ∷ recent) at apart = (Rattle.op_table.proofs.Neighbours.apar
 same_touched : (a b : OpKind) → undoes a b ≡ true → touches a ≡ touches b
 same_touched a b h = sym (ap touches (undone_is a b h) ∙ touches_alike a)
 
-on_left : (b : Numbered) (earlier xs : List Numbered) (l : Left b earlier xs) (r : Res) → among (touches b.1) r ≡ true → numbers_on r earlier ≡ l.a.0 ∷ numbers_on r xs
+on_left : (b : Numbered) (earlier xs : List Numbered) (l : Cancels b earlier xs) (r : Res) → among (touches b.1) r ≡ true → numbers_on r earlier ≡ l.a.0 ∷ numbers_on r xs
 on_left b earlier xs l r at =
     let out = none_touch b.1 r l.recent at l.apart in
     let own : among (touches l.a.1) r ≡ true = ap (λ (rs : List Res). among rs r) (same_touched l.a.1 b.1 l.undone) ∙ at in
@@ -125,11 +126,11 @@ on_left b earlier xs l r at =
     ∙ on_more r l.a l.older ∙ ap (λ (t : Bool). if t then l.a.0 ∷ numbers_on r l.older else numbers_on r l.older) own
     ∙ sym (ap (λ (s : List ℕ). l.a.0 ∷ s) (ap (numbers_on r) l.rest ∙ on_past r l.recent l.older out))
 
-on_left_other : (b : Numbered) (earlier xs : List Numbered) (l : Left b earlier xs) (r : Res) → among (touches b.1) r ≡ false → numbers_on r earlier ≡ numbers_on r xs
+on_left_other : (b : Numbered) (earlier xs : List Numbered) (l : Cancels b earlier xs) (r : Res) → among (touches b.1) r ≡ false → numbers_on r earlier ≡ numbers_on r xs
 on_left_other b earlier xs l r out =
     ap (numbers_on r) l.whole ∙ on_skipped r l.recent l.a l.older (ap (λ (rs : List Res). among rs r) (same_touched l.a.1 b.1 l.undone) ∙ out) ∙ sym (ap (numbers_on r) l.rest)
 
-pub stacks_popped : (m : MachineData) (n : ℕ) (b : Numbered) (earlier xs : List Numbered) (stacks : List (List ℕ)) → AllByRecursion (IsThere m n) (touches b.1) → Left b earlier xs → AreStacks m earlier stacks → AreStacks m xs (popped m (touches b.1) stacks)
+pub stacks_popped : (m : MachineData) (n : ℕ) (b : Numbered) (earlier xs : List Numbered) (stacks : List (List ℕ)) → AllByRecursion (IsThere m n) (touches b.1) → Cancels b earlier xs → AreStacks m earlier stacks → AreStacks m xs (popped m (touches b.1) stacks)
 stacks_popped m n b earlier xs stacks there l are = record {
   long = popped_long m (touches b.1) stacks ∙ are.long;
   each = λ r at. popped_at m n (touches b.1) stacks r (numbers_on r earlier) (rising-ascending (named b.1)) there at are.long (are.each r at) ∙ ap Some (by_test r (among (touches b.1) r) refl);

@@ -1,5 +1,5 @@
 -- The run of a program in which hot traps are cooled before gates.
-use Rattle.std.specs.Prelude.{ℕ, ◌+◌, Bool, true, false, nat_lt, if◌then◌else◌, List, [], ◌∷◌, ◌++◌, map, filter, Option, Some, None}
+use Rattle.std.specs.Prelude.{◌≡◌, ◌<◌, ◌≤◌, ℕ, ◌+◌, Bool, true, false, nat_lt, if◌then◌else◌, List, [], ◌∷◌, ◌++◌, map, filter, Option, Some, None}
 use Rattle.std.specs.List.{list_any}
 use Rattle.qccd_base.specs.Greatest.{greatest}
 use Rattle.qccd_base.specs.Resource.{among}
@@ -54,63 +54,71 @@ cooled_after m ceiling s (op ∷ ops) = cooled_after m ceiling (effect m (ready 
 -- ---- what is done, and when
 
 -- a trap is cooled, or an operation is done
-pub data Turn : Type 0 where
-  Cools : (trap : TrapId) → Turn
-  Does : (op : OpKind) → Turn
+pub data Task : Type 0 where
+  Cools : (trap : TrapId) → Task
+  Does : (op : OpKind) → Task
 
-abbrev pub takes : Turn → List Res
+abbrev pub takes : Task → List Res
 takes (Cools t) = res.Trap t ∷ []
 takes (Does op) = touches op
 
 -- a cool takes 400 microseconds
-abbrev pub time_of : MachineData → Turn → ℕ
+abbrev pub time_of : MachineData → Task → ℕ
 time_of m (Cools t) = 400
 time_of m (Does op) = duration m op
 
-abbrev pub cool_before : Option TrapId → List Turn
+abbrev pub cool_before : Option TrapId → List Task
 cool_before None = []
 cool_before (Some t) = Cools t ∷ []
 
 -- the operations from number k on, each with its number, and with the cool of its trap before it where that is hot
-abbrev pub turns : MachineData → ℕ → ℕ → State → List OpKind → List (ℕ × Turn)
-turns m ceiling k s [] = []
-turns m ceiling k s (op ∷ ops) =
-    map (λ turn. (k, turn)) (cool_before (hot_trap ceiling s op) ++ Does op ∷ [])
-    ++ turns m ceiling (k + 1) (effect m (ready ceiling s op) op) ops
+abbrev pub tasks : MachineData → ℕ → ℕ → State → List OpKind → List (ℕ × Task)
+tasks m ceiling k s [] = []
+tasks m ceiling k s (op ∷ ops) =
+    map (λ task. (k, task)) (cool_before (hot_trap ceiling s op) ++ Does op ∷ [])
+    ++ tasks m ceiling (k + 1) (effect m (ready ceiling s op) op) ops
 
 pub record Timing : Type 0 where
   pub number : ℕ
-  pub turn : Turn
+  pub task : Task
   pub start : ℕ
   pub finish : ℕ
 
--- after these a turn starts at the greatest finish of those with which it has a resource in common, or at 0
-abbrev pub start_behind : List Timing → Turn → ℕ
-start_behind earlier turn = greatest (map (λ e. e.finish) (filter (λ e. list_any (among (takes turn)) (takes e.turn)) earlier))
+-- after these a task starts at the greatest finish of those with which it has a resource in common, or at 0
+abbrev pub start_behind : List Timing → Task → ℕ
+start_behind earlier task = greatest (map (λ e. e.finish) (filter (λ e. list_any (among (takes task)) (takes e.task)) earlier))
 
-abbrev pub timing : MachineData → List Timing → ℕ × Turn → Timing
+abbrev pub timing : MachineData → List Timing → ℕ × Task → Timing
 timing m earlier e = record {
   number = e.0;
-  turn = e.1;
+  task = e.1;
   start = start_behind earlier e.1;
   finish = start_behind earlier e.1 + time_of m e.1;
 }
 
-abbrev pub timings_from : MachineData → List Timing → List (ℕ × Turn) → List Timing
+abbrev pub timings_from : MachineData → List Timing → List (ℕ × Task) → List Timing
 timings_from m earlier [] = []
 timings_from m earlier (e ∷ es) = let now = timing m earlier e in now ∷ timings_from m (now ∷ earlier) es
 
 -- the cooled run of a program
 abbrev pub cooled_run : ProgramData → ℕ → List Timing
-cooled_run p ceiling = timings_from p.machine [] (turns p.machine ceiling 0 (opening_of p) p.ops)
+cooled_run p ceiling = timings_from p.machine [] (tasks p.machine ceiling 0 (opening_of p) p.ops)
 
 abbrev pub cooled_end : ProgramData → ℕ → State
 cooled_end p ceiling = cooled_after p.machine ceiling (opening_of p) p.ops
 
 -- its cools
-abbrev pub is_cool : Turn → Bool
+abbrev pub is_cool : Task → Bool
 is_cool (Cools t) = true
 is_cool (Does op) = false
 
 abbrev pub cools_of : List Timing → List Timing
-cools_of run = filter (λ e. is_cool e.turn) run
+cools_of run = filter (λ e. is_cool e.task) run
+
+-- where operations begin, cooled: the trap of a two-qubit gate or of an exchange of qubits is at the ceiling at most
+abbrev pub BeginCool : MachineData → ℕ → State → List OpKind → Type 0
+BeginCool m ceiling s [] = Unit {0}
+BeginCool m ceiling s (op ∷ ops) =
+    ((t : TrapId) → gate_trap op ≡ Some t → heat_of (ready ceiling s op) t.0 ≤ ceiling)
+    × ((t : TrapId) → hot_trap ceiling s op ≡ Some t → ceiling < heat_of s t.0)
+    × BeginCool m ceiling (effect m (ready ceiling s op) op) ops

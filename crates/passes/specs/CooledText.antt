@@ -9,7 +9,7 @@ use Rattle.op_table.specs.State.{State, is_on_segment, is_in_junction}
 use Rattle.qccd_program.specs.Program.{ProgramData}
 use Rattle.op_text.specs.OpText.{next_word, op_text}
 use Rattle.tracer.specs.Report.{labelled, size_line, start_line, end_line, stray_lines, count_text, columns}
-use Rattle.passes.specs.Cool.{Turn, Cools, Does, Timing, cooled_run, cooled_end, cools_of}
+use Rattle.passes.specs.Cool.{Task, Cools, Does, Timing, cooled_run, cooled_end, cools_of}
 
 -- by start; of those with one start the one that stands first in the run. So a cool stands before its operation
 abbrev pub put_by_start : Timing → List Timing → List Timing
@@ -20,12 +20,12 @@ abbrev pub by_start : List Timing → List Timing
 by_start [] = []
 by_start (e ∷ es) = put_by_start e (by_start es)
 
-abbrev pub turn_text : Turn → List ℕ
-turn_text (Cools t) = labelled (codes "cool T") t.0
-turn_text (Does op) = op_text op
+abbrev pub task_text : Task → List ℕ
+task_text (Cools t) = labelled (codes "cool T") t.0
+task_text (Does op) = op_text op
 
-abbrev pub turn_line : Timing → List ℕ
-turn_line e = line (decimal e.number ++ next_word (decimal e.start) ++ next_word (decimal e.finish) ++ next_word (turn_text e.turn))
+abbrev pub task_line : Timing → List ℕ
+task_line e = line (decimal e.number ++ next_word (decimal e.start) ++ next_word (decimal e.finish) ++ next_word (task_text e.task))
 
 -- what is left where in a state
 abbrev pub end_lines : MachineData → State → List ℕ
@@ -45,7 +45,7 @@ cooled_text p ceiling =
     ++ size_line p
     ++ flat_map start_line (enumerate_from 0 p.start)
     ++ line (labelled (codes "ops ") (length p.ops))
-    ++ flat_map turn_line (by_start run)
+    ++ flat_map task_line (by_start run)
     ++ end_lines p.machine (cooled_end p ceiling)
     ++ counts_line p.ops (length (cools_of run))
     ++ line (labelled (codes "finish ") (greatest (map (λ e. e.finish) run)))

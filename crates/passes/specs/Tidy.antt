@@ -11,17 +11,23 @@ use Rattle.passes.specs.Undo.{undoes}
 abbrev pub Numbered : Type 0
 Numbered = ℕ × OpKind
 
--- Of a list: a and b cancel. They undo each other, and no operation between them touches a resource that they touch.
-pub record IsPair (ops front : List Numbered) (a : Numbered) (middle : List Numbered) (b : Numbered) (back : List Numbered) : Type 0 where
+-- the operations without their numbers
+abbrev pub kinds : List Numbered → List OpKind
+kinds ops = map (λ e. e.1) ops
+
+-- Of a list: a and b cancel. They undo each other, so they touch the same resources, and no operation between
+-- them touches one of these.
+pub record IsPair (ops front : List OpKind) (a : OpKind) (middle : List OpKind) (b : OpKind) (back : List OpKind) : Type 0 where
   pub whole : ops ≡ front ++ (a ∷ middle ++ b ∷ back)
-  pub undone : undoes a.1 b.1 ≡ true
-  pub apart : AllByRecursion (λ x. meets x.1 b.1 ≡ false) middle
+  pub undone : undoes a b ≡ true
+  pub apart : AllByRecursion (λ x. meets x b ≡ false) middle
 
 -- no two operations of the list cancel
-abbrev pub IsTidy : List Numbered → Type 0
-IsTidy ops = (front middle back : List Numbered) (a b : Numbered) → IsPair ops front a middle b back → ⊥
+abbrev pub IsTidy : List OpKind → Type 0
+IsTidy ops = (front middle back : List OpKind) (a b : OpKind) → IsPair ops front a middle b back → ⊥
 
--- of earlier operations, the last one first: those that are left when b cancels one of them, or none where it cancels none
+-- of earlier operations, the last one first: those that are left when b cancels one of them, or none where it
+-- cancels none
 abbrev pub left_by : Numbered → List Numbered → Option (List Numbered)
 left_by b [] = None
 left_by b (a ∷ earlier) =
@@ -41,26 +47,6 @@ tidied_in (suc n) ops = unwrap_or (option_map (tidied_in n) (first_removed [] op
 abbrev pub staying : List OpKind → List Numbered
 staying ops = tidied_in (length ops) (enumerate_from 0 ops)
 
--- the program without operations that cancel
+-- the program without operations that cancel, with all else as it is
 abbrev pub tidied : ProgramData → ProgramData
-tidied p = record p { ops = map (λ e. e.1) (staying p.ops) }
-
--- ---- in one pass
-
--- the earlier operations, the last one first, after one more: without the one that it cancels, or with it in front
-abbrev pub put : List Numbered → Numbered → List Numbered
-put earlier b = unwrap_or (left_by b earlier) (b ∷ earlier)
-
-abbrev pub swept : List Numbered → List Numbered → List Numbered
-swept earlier [] = earlier
-swept earlier (b ∷ ops) = swept (put earlier b) ops
-
--- of earlier operations, the last one first, b cancels a: it undoes it, and the more recent ones share no resource with it
-pub record Left (b : Numbered) (earlier xs : List Numbered) : Type 0 where
-  pub recent : List Numbered
-  pub a : Numbered
-  pub older : List Numbered
-  pub whole : earlier ≡ recent ++ a ∷ older
-  pub rest : xs ≡ recent ++ older
-  pub undone : undoes a.1 b.1 ≡ true
-  pub apart : AllByRecursion (λ x. meets x.1 b.1 ≡ false) recent
+tidied p = record p { ops = kinds (staying p.ops) }

@@ -5,7 +5,6 @@ ghost use Rattle.std.specs.List.{AllByRecursion, enumerate_from};
 ghost use Rattle.qccd_circuit.specs.Circuit.{CircuitData};
 ghost use Rattle.qccd_machine.specs.Machine.{MachineData};
 ghost use Rattle.op_table.specs.declared.kinds.OpKind.{OpKind};
-ghost use Rattle.op_table.specs.Clock.{timed};
 ghost use Rattle.op_table.specs.Op.{IsOp};
 ghost use Rattle.op_table.specs.Run.{items_in};
 ghost use Rattle.op_table.specs.State.{State, IsSafe};
@@ -13,12 +12,13 @@ ghost use Rattle.op_table.specs.Step.{effect, why};
 ghost use Rattle.qccd_program.specs.Implements.{Implements};
 ghost use Rattle.qccd_program.specs.Legal.{IsLegalProgram};
 ghost use Rattle.qccd_program.specs.Program.{ProgramData, opening_of, end_of};
-ghost use Rattle.passes.specs.Cool.{cooled_end};
-ghost use Rattle.passes.specs.Kept.{BeginCool, FinishNoLater, SameStands};
+ghost use Rattle.passes.specs.Cool.{BeginCool, cooled_end};
+ghost use Rattle.passes.specs.Kept.{FinishNoLater, SameStands};
 ghost use Rattle.op_table.specs.Touch.{touches};
 ghost use Rattle.op_cells.specs.Numbering.{count_of, IsThere};
 ghost use Rattle.passes.specs.Stacks.{AreStacks, IsPartner, kept_in, partner_of, popped, pushed, SweptTo};
-ghost use Rattle.passes.specs.Tidy.{IsTidy, Left, left_by, Numbered, staying, swept, tidied};
+ghost use Rattle.passes.specs.Tidy.{IsTidy, kinds, left_by, Numbered, staying, tidied};
+ghost use Rattle.passes.specs.Swept.{Cancels, swept};
 ghost use Rattle.passes.specs.Undo.{undoes};
 
 /// Two operations that undo each other, done one after the other, leave the places and bindings as they were.
@@ -38,12 +38,12 @@ pub fn tidied_does_the_same()
 
 /// Each operation that stays finishes no later than it did.
 pub fn no_later()
-    ensures { (p : ProgramData) → FinishNoLater (timed p.machine p.ops) (staying p.ops) (timed p.machine (tidied p).ops) }
+    ensures { (p : ProgramData) → FinishNoLater p }
 {}
 
 /// No two of the operations that stay cancel.
 pub fn nothing_left_to_cancel()
-    ensures { (ops : List OpKind) → IsTidy (staying ops) }
+    ensures { (ops : List OpKind) → IsTidy (kinds (staying ops)) }
 {}
 
 /// One pass over the operations finds those that stay.
@@ -64,7 +64,7 @@ pub fn stacks_tell()
     ensures cancels { (m : MachineData) (n k i : ℕ) (ops : List OpKind) (op : OpKind) (earlier : List Numbered) (stacks : List (List ℕ)) → AllByRecursion (IsThere m n) (touches op) → AllByRecursion (λ e. slice_get ops e.0 ≡ Some e.1) earlier → AreStacks m earlier stacks → partner_of m ops stacks op ≡ Some i → IsPartner (Some i) (k, op) earlier }
     ensures none { (m : MachineData) (n k : ℕ) (ops : List OpKind) (op : OpKind) (earlier : List Numbered) (stacks : List (List ℕ)) → AllByRecursion (IsThere m n) (touches op) → AllByRecursion (λ e. slice_get ops e.0 ≡ Some e.1) earlier → AreStacks m earlier stacks → partner_of m ops stacks op ≡ None → left_by (k, op) earlier ≡ None }
     ensures put { (m : MachineData) (n k : ℕ) (op : OpKind) (earlier : List Numbered) (stacks : List (List ℕ)) → AllByRecursion (IsThere m n) (touches op) → AreStacks m earlier stacks → AreStacks m ((k, op) ∷ earlier) (pushed m k (touches op) stacks) }
-    ensures taken { (m : MachineData) (n : ℕ) (b : Numbered) (earlier xs : List Numbered) (stacks : List (List ℕ)) → AllByRecursion (IsThere m n) (touches b.1) → Left b earlier xs → AreStacks m earlier stacks → AreStacks m xs (popped m (touches b.1) stacks) }
+    ensures taken { (m : MachineData) (n : ℕ) (b : Numbered) (earlier xs : List Numbered) (stacks : List (List ℕ)) → AllByRecursion (IsThere m n) (touches b.1) → Cancels b earlier xs → AreStacks m earlier stacks → AreStacks m xs (popped m (touches b.1) stacks) }
 {}
 
 /// Stacks and marks that are right for the first operations stay so with one operation more. In the end those that are not
