@@ -99,10 +99,10 @@ items_fewer : (front middle back : List OpKind) (a b : OpKind) → undoes a b �
 items_fewer front middle back a b undone =
     filter_map-append item_in front (middle ++ back)
     ∙ ap (λ (l : List (ℕ × ItemData)). items_in front ++ l)
-        (filter_map-append item_in middle back
-        ∙ ap (λ (l : List (ℕ × ItemData)). items_in middle ++ l) (sym (items_skip b back (no_item_back a b undone)))
-        ∙ sym (filter_map-append item_in middle (b ∷ back))
-        ∙ sym (items_skip a (middle ++ b ∷ back) (no_item a b undone)))
+    (filter_map-append item_in middle back
+    ∙ ap (λ (l : List (ℕ × ItemData)). items_in middle ++ l) (sym (items_skip b back (no_item_back a b undone)))
+    ∙ sym (filter_map-append item_in middle (b ∷ back))
+    ∙ sym (items_skip a (middle ++ b ∷ back) (no_item a b undone)))
     ∙ sym (filter_map-append item_in front (a ∷ middle ++ b ∷ back))
 
 -- a pair behind some other operations
@@ -155,15 +155,15 @@ keeps_swept m s earlier (b ∷ ops) safe all fit run = by_left (λ xs some rule 
         let middle : List OpKind = kinds (reverse l.recent) in
         let back : List OpKind = kinds ops in
         let whole : kinds (reverse earlier ++ b ∷ ops) ≡ front ++ (l.a.1 ∷ middle ++ b.1 ∷ back) =
-            ap kinds (seen_whole b earlier xs (b ∷ ops) l) ∙ map-append (λ (e : Numbered). e.1) (reverse l.older) (l.a ∷ reverse l.recent ++ b ∷ ops)
-            ∙ ap (λ (k : List OpKind). front ++ l.a.1 ∷ k) (map-append (λ (e : Numbered). e.1) (reverse l.recent) (b ∷ ops)) in
+        ap kinds (seen_whole b earlier xs (b ∷ ops) l) ∙ map-append (λ (e : Numbered). e.1) (reverse l.older) (l.a ∷ reverse l.recent ++ b ∷ ops)
+        ∙ ap (λ (k : List OpKind). front ++ l.a.1 ∷ k) (map-append (λ (e : Numbered). e.1) (reverse l.recent) (b ∷ ops)) in
         let fewer : kinds (reverse xs ++ ops) ≡ front ++ (middle ++ back) =
-            ap kinds (seen_left b earlier xs ops l) ∙ map-append (λ (e : Numbered). e.1) (reverse l.older) (reverse l.recent ++ ops)
-            ∙ ap (λ (k : List OpKind). front ++ k) (map-append (λ (e : Numbered). e.1) (reverse l.recent) ops) in
+        ap kinds (seen_left b earlier xs ops l) ∙ map-append (λ (e : Numbered). e.1) (reverse l.older) (reverse l.recent ++ ops)
+        ∙ ap (λ (k : List OpKind). front ++ k) (map-append (λ (e : Numbered). e.1) (reverse l.recent) ops) in
         let one : Keeps m s (front ++ (l.a.1 ∷ middle ++ b.1 ∷ back)) (front ++ (middle ++ back)) =
-            keeps_fewer m s front middle back l.a.1 b.1 safe (subst (AllByRecursion IsOp) whole all) (subst (AllByRecursion KeepsItemRule) whole fit) (subst (IsRun m s) whole run) l.undone (all_kinds b.1 l.recent l.apart) in
+        keeps_fewer m s front middle back l.a.1 b.1 safe (subst (AllByRecursion IsOp) whole all) (subst (AllByRecursion KeepsItemRule) whole fit) (subst (IsRun m s) whole run) l.undone (all_kinds b.1 l.recent l.apart) in
         let more : Keeps m s (kinds (reverse xs ++ ops)) (kinds (reverse (swept xs ops))) =
-            next xs (subst (AllByRecursion IsOp) (sym fewer) one.ops) (subst (AllByRecursion KeepsItemRule) (sym fewer) one.fit) (subst (IsRun m s) (sym fewer) one.run) in
+        next xs (subst (AllByRecursion IsOp) (sym fewer) one.ops) (subst (AllByRecursion KeepsItemRule) (sym fewer) one.fit) (subst (IsRun m s) (sym fewer) one.run) in
         subst (λ (k : List OpKind). Keeps m s k (kinds (reverse (swept xs ops)))) (sym whole)
         (both m s (front ++ (l.a.1 ∷ middle ++ b.1 ∷ back)) (front ++ (middle ++ back)) (kinds (reverse (swept xs ops))) one (subst (λ (k : List OpKind). Keeps m s k (kinds (reverse (swept xs ops)))) fewer more))
 
@@ -175,7 +175,7 @@ pub keeps_staying : (p : ProgramData) → IsSafe p.machine (opening_of p) → Al
 keeps_staying p safe all fit run =
     let e : kinds (enumerate_from 0 p.ops) ≡ p.ops = unnumbered 0 p.ops in
     let pass : Keeps p.machine (opening_of p) (kinds (enumerate_from 0 p.ops)) (kinds (reverse (swept [] (enumerate_from 0 p.ops)))) =
-        keeps_swept p.machine (opening_of p) [] (enumerate_from 0 p.ops) safe (subst (AllByRecursion IsOp) (sym e) all) (subst (AllByRecursion KeepsItemRule) (sym e) fit) (subst (IsRun p.machine (opening_of p)) (sym e) run) in
+    keeps_swept p.machine (opening_of p) [] (enumerate_from 0 p.ops) safe (subst (AllByRecursion IsOp) (sym e) all) (subst (AllByRecursion KeepsItemRule) (sym e) fit) (subst (IsRun p.machine (opening_of p)) (sym e) run) in
     subst (λ (k : List OpKind). Keeps p.machine (opening_of p) p.ops k) (ap kinds (sym (staying_is p.ops)))
     (subst (λ (k : List OpKind). Keeps p.machine (opening_of p) k (kinds (reverse (swept [] (enumerate_from 0 p.ops))))) e pass)
 

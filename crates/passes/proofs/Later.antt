@@ -117,11 +117,10 @@ no_later m old k now was some (op ∷ ops) less part there = by_part (λ n w xs 
     by_part : ((now was : List Timed) (some : List Numbered) → NoLater now was → IsPart some (enumerate_from (k + 1) ops) → ((j : ℕ) → slice_get old (k + 1 + j) ≡ slice_get (timed_from m was ops) j) → EachLater old some (timed_from m now (kinds some))) → (some : List Numbered) → IsPart some ((k, op) ∷ enumerate_from (k + 1) ops) → EachLater old some (timed_from m now (kinds some))
     by_part later some (goes e more all p) = later now (timed_after m was op ∷ was) some (λ r. more_less (among (touches op) r) (timed_after m was op).finish (clock_after now r) (clock_after was r) (less r)) p next
     by_part later some (stays e more all p) =
-        let mine : (timed_after m now op).finish ≤ (timed_after m was op).finish = finish_less m now was op less in
-        (
+        let mine : (timed_after m now op).finish ≤ (timed_after m was op).finish = finish_less m now was op less in (
           λ (t : Timed) (is : slice_get old k ≡ Some t). subst (λ (x : Timed). (timed_after m now op).finish ≤ x.finish) (same_Some (timed_after m was op) t (sym first ∙ is)) mine,
           later (timed_after m now op ∷ now) (timed_after m was op ∷ was) more
-          (λ r. step_less (among (touches op) r) (timed_after m now op).finish (timed_after m was op).finish (clock_after now r) (clock_after was r) mine (less r)) p next,
+              (λ r. step_less (among (touches op) r) (timed_after m now op).finish (timed_after m was op).finish (clock_after now r) (clock_after was r) mine (less r)) p next,
         )
 
 pub tidied_no_later : (p : ProgramData) → FinishNoLater p

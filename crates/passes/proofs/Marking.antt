@@ -172,7 +172,7 @@ swept_goes m n k i ops op stacks marks is there so_far some =
     let next : swept_to ops (suc k) ≡ xs = swept_next ops k op is ∙ ap (λ (o : Option (List Numbered)). unwrap_or o ((k, op) ∷ earlier)) left in
     let long' : length (set marks i true) ≡ k = length-set marks i true ∙ so_far.long in
     let was : kept_in marks (enumerate_from 0 (take k ops)) ≡ reverse l.older ++ l.a ∷ reverse l.recent =
-        so_far.marked ∙ sym (append-nil (reverse earlier)) ∙ seen_whole (k, op) earlier xs [] l ∙ ap (λ (t : List Numbered). reverse l.older ++ l.a ∷ t) (append-nil (reverse l.recent)) in
+    so_far.marked ∙ sym (append-nil (reverse earlier)) ∙ seen_whole (k, op) earlier xs [] l ∙ ap (λ (t : List Numbered). reverse l.older ++ l.a ∷ t) (append-nil (reverse l.recent)) in
     let now : kept_in (set marks i true) (enumerate_from 0 (take k ops)) ≡ reverse l.older ++ reverse l.recent = marked_one 0 (take k ops) marks (reverse l.older) (reverse l.recent) l.a i (found.2 ∙ plus_zero i) was in
     record {
       on = subst (λ (es : List Numbered). AreStacks m es (popped m (touches op) stacks)) (sym next) (stacks_popped m n (k, op) earlier xs stacks there l so_far.on);

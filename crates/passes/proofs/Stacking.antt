@@ -167,7 +167,7 @@ found_top ops b a i (e ∷ earlier) sits is undone r0 some each = elim (cases_Bo
       (earlier, record { recent = []; a = e; older = earlier; whole = refl; rest = refl; undone = ap (λ (x : OpKind). undoes x b.1) (sym same) ∙ undone; apart = tt }, number)
   | inr h ↦
       let rest = found_top ops b a i earlier sits.1 is undone r0 some (λ r at.
-          sym (ap (λ (s : List ℕ). slice_get s 0) (on_more r e earlier ∙ ap (λ (t : Bool). if t then e.0 ∷ numbers_on r earlier else numbers_on r earlier) (Rattle.op_table.proofs.Neighbours.apart_other (touches e.1) (touches b.1) r h at))) ∙ each r at) in
+      sym (ap (λ (s : List ℕ). slice_get s 0) (on_more r e earlier ∙ ap (λ (t : Bool). if t then e.0 ∷ numbers_on r earlier else numbers_on r earlier) (Rattle.op_table.proofs.Neighbours.apart_other (touches e.1) (touches b.1) r h at))) ∙ each r at) in
       (e ∷ rest.0, record { recent = e ∷ rest.1.recent; a = rest.1.a; older = rest.1.older; whole = ap (λ (l : List Numbered). e ∷ l) rest.1.whole; rest = ap (λ (l : List Numbered). e ∷ l) rest.1.rest; undone = rest.1.undone; apart = (h, rest.1.apart) }, rest.2)
 ]
   where
@@ -277,12 +277,12 @@ partner_none m n k ops op earlier stacks there sits are is = by_left (left_by (k
         let all = stacked m n l.a.1 op l.undone there in
         let s = some_touched l.a.1 op l.undone in
         let tops : (r : Res) → among (touches op) r ≡ true → top_at m stacks r ≡ Some l.a.0 =
-            λ r at. top_is m earlier stacks r are (there_read m (touches op) r all at) ∙ ap (λ (t : List ℕ). slice_get t 0) (on_left (k, op) earlier xs l r at) in
+        λ r at. top_is m earlier stacks r are (there_read m (touches op) r all at) ∙ ap (λ (t : List ℕ). slice_get t 0) (on_left (k, op) earlier xs l r at) in
         let first : first_top m stacks (touches op) ≡ Some l.a.0 = first_of m stacks (touches op) s.0 s.1 s.2 ∙ tops s.0 (ap (λ (rs : List Res). among rs s.0) s.2 ∙ own_among s.0 s.1) in
         let there_a : slice_get ops l.a.0 ≡ Some l.a.1 = (all_back (λ (e : Numbered). slice_get ops e.0 ≡ Some e.1) l.recent (l.a ∷ l.older) (subst (Sits ops) l.whole sits)).0 in
         let undone : undone_by op (slice_get ops l.a.0) ≡ true = ap (undone_by op) there_a ∙ l.undone in
         let on_all : list_all (λ r. is_number l.a.0 (top_at m stacks r)) (touches op) ≡ true = all_from (λ r. is_number l.a.0 (top_at m stacks r)) (touches op) (λ r at. number_own l.a.0 (top_at m stacks r) (tops r at)) in
         let chosen : partner_of m ops stacks op ≡ Some l.a.0 =
-            ap (only_if (λ i. undone_by op (slice_get ops i) && list_all (λ r. is_number i (top_at m stacks r)) (touches op))) first
-            ∙ ap₂ (λ (x y : Bool). if x && y then Some l.a.0 else None) undone on_all in
+        ap (only_if (λ i. undone_by op (slice_get ops i) && list_all (λ r. is_number i (top_at m stacks r)) (touches op))) first
+        ∙ ap₂ (λ (x y : Bool). if x && y then Some l.a.0 else None) undone on_all in
         absurd (none-some l.a.0 (sym is ∙ chosen))

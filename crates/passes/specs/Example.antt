@@ -1,13 +1,14 @@
 -- Worked examples: programs with steps that undo each other, and the cooled report of a program of two traps.
-use Rattle.std.specs.Prelude.{ℕ, List, [], ◌∷◌, codes}
+use Rattle.std.specs.Prelude.{ℕ, List, [], ◌∷◌, codes, map}
 use Rattle.qccd_base.specs.Names.{ion, segment, trap}
-use Rattle.qccd_base.specs.declared.names.End.TheVariants.{Right}
+use Rattle.qccd_base.specs.declared.names.End.TheVariants.{Left, Right}
 use Rattle.qccd_circuit.specs.Example.{h_on}
 use Rattle.op_table.specs.declared.kinds.OpKind.{OpKind}
 use Rattle.op_table.specs.declared.kinds.OpKind.TheVariants.{Split, Move, Merge, Rot, Item}
 use Rattle.op_table.specs.Example.{pair}
 use Rattle.qccd_program.specs.Program.{ProgramData}
 use Rattle.qccd_program.specs.Example.{x_on}
+use Rattle.passes.specs.Tidy.{staying}
 
 -- two ions exchange places twice, and one goes out to the segment and comes back; then a gate
 abbrev pub x_on_first : OpKind
@@ -33,6 +34,33 @@ with_a_gate = of_two_ions (Rot (trap 0) 0 ∷ Item 1 (trap 0) (h_on 1) (0 ∷ []
 
 abbrev pub with_a_gate_tidied : ProgramData
 with_a_gate_tidied = of_two_ions (Rot (trap 0) 0 ∷ Item 1 (trap 0) (h_on 1) (0 ∷ []) ∷ Item 0 (trap 0) (x_on 0) (1 ∷ []) ∷ [])
+
+-- the numbers of the operations that stay
+abbrev pub numbers_left : List OpKind → List ℕ
+numbers_left ops = map (λ e. e.0) (staying ops)
+
+-- an exchange of ions in the first trap, a gate in the second trap, and a gate in the first
+abbrev pub turned : OpKind
+turned = Rot (trap 0) 0
+
+abbrev pub beside : OpKind
+beside = Item 1 (trap 1) (x_on 3) (0 ∷ [])
+
+-- out of the first trap to the right, to the segment's other end, into the second trap from the left, and back
+abbrev pub out : OpKind
+out = Split (trap 0) Right (segment 0)
+
+abbrev pub over : OpKind
+over = Move (segment 0)
+
+abbrev pub into : OpKind
+into = Merge (segment 0) (trap 1) Left
+
+abbrev pub out_again : OpKind
+out_again = Split (trap 1) Left (segment 0)
+
+abbrev pub home : OpKind
+home = Merge (segment 0) (trap 0) Right
 
 -- the report of the program of eight operations, cooled at a ceiling of 300
 abbrev pub cooled_lines : List (List ℕ)

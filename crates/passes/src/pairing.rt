@@ -12,11 +12,11 @@ ghost use Rattle.passes.specs.Tidy.{staying};
 
 use crate::stack::Stack;
 use crate::undoing::undoes;
-use qccd_program::Program;
 use op_cells::{count_of, index_of};
 use op_table::Op;
 use qccd_base::{NoMemory, Res};
 use qccd_machine::Machine;
+use qccd_program::Program;
 use std::alloc::Global;
 
 // So many stacks with nothing on them.

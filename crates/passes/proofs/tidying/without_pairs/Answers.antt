@@ -9,11 +9,11 @@ use Rattle.passes.proofs.tidying.without_pairs.Goals as goal
 pub of-requires : goal.of-requires
 of-requires c = record {
   legal = subst IsLegalProgram
-    (sym (parts_left c.args.program c.into_parts-machine.result.0 c.qubits-qubits.result c.bits-bits.result c.into_parts-machine.result.1.items
-    c.in_ok-left.left.items c.ops.result.now c.in_ok-gone.gone.items c.as_slice.result.now
-    c.into_parts-machine.ensures.machine c.qubits-qubits.ensures c.bits-bits.ensures c.into_parts-machine.ensures.start
-    c.in_ok-left.ensures c.as_slice.ensures.value c.ops.ensures.value c.in_ok-gone.ensures.0))
-    (tidied_legal c.args.program c.ops.ensures.legal);
+      (sym (parts_left c.args.program c.into_parts-machine.result.0 c.qubits-qubits.result c.bits-bits.result c.into_parts-machine.result.1.items
+      c.in_ok-left.left.items c.ops.result.now c.in_ok-gone.gone.items c.as_slice.result.now
+      c.into_parts-machine.ensures.machine c.qubits-qubits.ensures c.bits-bits.ensures c.into_parts-machine.ensures.start
+      c.in_ok-left.ensures c.as_slice.ensures.value c.ops.ensures.value c.in_ok-gone.ensures.0))
+      (tidied_legal c.args.program c.ops.ensures.legal);
 }
 
 pub returns : goal.returns
