@@ -38,6 +38,19 @@ abbrev pub first_removed : List Numbered → List Numbered → Option (List Numb
 first_removed earlier [] = None
 first_removed earlier (b ∷ ops) = option_or (option_map (λ xs. reverse xs ++ ops) (left_by b earlier)) (first_removed (b ∷ earlier) ops)
 
+-- the cancelling pair a and b is taken away from a list, and no two operations cancel of which the second stands before b
+pub record IsWithoutFirst (ops others : List Numbered) : Type 0 where
+  pub front : List Numbered
+  pub a : Numbered
+  pub middle : List Numbered
+  pub b : Numbered
+  pub back : List Numbered
+  pub whole : ops ≡ front ++ (a ∷ middle ++ b ∷ back)
+  pub left : others ≡ front ++ (middle ++ back)
+  pub undone : undoes a.1 b.1 ≡ true
+  pub apart : AllByRecursion (λ x. meets x.1 b.1 ≡ false) middle
+  pub first : IsTidy (kinds (front ++ (a ∷ middle)))
+
 -- the same again and again, at most so many times
 abbrev pub tidied_in : ℕ → List Numbered → List Numbered
 tidied_in zero ops = ops

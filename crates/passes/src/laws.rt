@@ -17,7 +17,7 @@ ghost use Rattle.passes.specs.Kept.{FinishNoLater, SameStands};
 ghost use Rattle.op_table.specs.Touch.{touches};
 ghost use Rattle.op_cells.specs.Numbering.{count_of, IsThere};
 ghost use Rattle.passes.specs.Stacks.{AreStacks, IsPartner, kept_in, partner_of, popped, pushed, SweptTo};
-ghost use Rattle.passes.specs.Tidy.{IsTidy, kinds, left_by, Numbered, staying, tidied};
+ghost use Rattle.passes.specs.Tidy.{first_removed, IsTidy, IsWithoutFirst, kinds, left_by, Numbered, staying, tidied};
 ghost use Rattle.passes.specs.Swept.{Cancels, swept};
 ghost use Rattle.passes.specs.Undo.{undoes};
 
@@ -44,6 +44,13 @@ pub fn no_later()
 /// No two of the operations that stay cancel.
 pub fn nothing_left_to_cancel()
     ensures { (ops : List OpKind) → IsTidy (kinds (staying ops)) }
+{}
+
+/// Of all pairs that cancel the one goes first whose second operation has the least number; where none goes, no two
+/// operations cancel.
+pub fn first_pair_goes()
+    ensures goes { (ops left : List Numbered) → first_removed [] ops ≡ Some left → IsWithoutFirst ops left }
+    ensures none { (ops : List Numbered) → first_removed [] ops ≡ None → IsTidy (kinds ops) }
 {}
 
 /// One pass over the operations finds those that stay.
