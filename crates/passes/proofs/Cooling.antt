@@ -1,6 +1,6 @@
 -- What holds where hot traps are cooled before gates.
-use Rattle.std.proofs.Common.{arith, ◌≡◌, ℕ, ◌<◌, ◌≤◌, ◌+◌, Bool, true, false, nat_lt, if◌then◌else◌, List, [], ◌∷◌, set, length, refl, sym, ◌∙◌, ap, subst, Option, Some, None, get_or}
-use Rattle.std.specs.List.{AllByRecursion}
+use Rattle.std.proofs.Common.{arith, ◌≡◌, ℕ, ◌<◌, ◌≤◌, ◌+◌, Bool, true, false, nat_lt, if◌then◌else◌, List, [], ◌∷◌, ◌++◌, map, set, length, refl, sym, ◌∙◌, ap, subst, Option, Some, None, get_or}
+use Rattle.std.specs.List.{AllByRecursion, enumerate_from}
 use Rattle.std.proofs.lemmas.Bool.{cases_lt, false≢true}
 use Rattle.std.proofs.lemmas.Option.{same_Some}
 use Rattle.qccd_base.specs.declared.names.TrapId.{TrapId}
@@ -15,7 +15,7 @@ use Rattle.op_plan.specs.Cold.{cold}
 use Rattle.op_table.proofs.Openings.{opening-safe}
 use Rattle.qccd_program.specs.Legal.{IsLegalProgram}
 use Rattle.qccd_program.specs.Program.{ProgramData, opening_of, end_of}
-use Rattle.passes.specs.Cool.{BeginCool, gate_trap, if_hot, hot_trap, rested, ready, cooled_after, cooled_end}
+use Rattle.passes.specs.Cool.{BeginCool, Task, Cools, Does, cool_before, operations_in, tasks, gate_trap, if_hot, hot_trap, rested, ready, cooled_after, cooled_end}
 use Rattle.passes.specs.Kept.{SameStands}
 use Rattle.passes.proofs.Stands.{stands_legal, stands_step}
 
@@ -82,3 +82,13 @@ pub cooled_ends : (p : ProgramData) (ceiling : ℕ) → IsLegalProgram p → Sam
 cooled_ends p ceiling legal =
     let safe : IsSafe p.machine (opening_of p) = opening-safe p.machine p.qubits p.bits p.start legal.start in
     cooled_stands p.machine ceiling (opening_of p) (opening_of p) p.ops safe safe legal.ops legal.run refl
+
+-- the operations of the cooled run are those of the program
+pub operations_stay : (m : MachineData) (ceiling k : ℕ) (s : State) (ops : List OpKind) → operations_in (tasks m ceiling k s ops) ≡ enumerate_from k ops
+operations_stay m ceiling k s [] = refl
+operations_stay m ceiling k s (op ∷ ops) = by_hot (hot_trap ceiling s op) (operations_stay m ceiling (k + 1) (effect m (ready ceiling s op) op) ops)
+  where
+    by_hot : (o : Option TrapId) → operations_in (tasks m ceiling (k + 1) (effect m (ready ceiling s op) op) ops) ≡ enumerate_from (k + 1) ops
+        → operations_in (map (λ task. (k, task)) (cool_before o ++ Does op ∷ []) ++ tasks m ceiling (k + 1) (effect m (ready ceiling s op) op) ops) ≡ (k, op) ∷ enumerate_from (k + 1) ops
+    by_hot None rest = ap (λ (l : List (ℕ × OpKind)). (k, op) ∷ l) rest
+    by_hot (Some t) rest = ap (λ (l : List (ℕ × OpKind)). (k, op) ∷ l) rest

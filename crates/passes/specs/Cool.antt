@@ -1,5 +1,5 @@
 -- The run of a program in which hot traps are cooled before gates.
-use Rattle.std.specs.Prelude.{◌≡◌, ◌<◌, ◌≤◌, ℕ, ◌+◌, Bool, true, false, nat_lt, if◌then◌else◌, List, [], ◌∷◌, ◌++◌, map, filter, Option, Some, None}
+use Rattle.std.specs.Prelude.{◌≡◌, ◌<◌, ◌≤◌, ℕ, ◌+◌, Bool, true, false, nat_lt, if◌then◌else◌, List, [], ◌∷◌, ◌++◌, map, filter, filter_map, Option, Some, None}
 use Rattle.std.specs.List.{list_any}
 use Rattle.qccd_base.specs.Greatest.{greatest}
 use Rattle.qccd_base.specs.Resource.{among}
@@ -114,6 +114,14 @@ is_cool (Does op) = false
 
 abbrev pub cools_of : List Timing → List Timing
 cools_of run = filter (λ e. is_cool e.task) run
+
+-- of tasks with their numbers the operations
+abbrev pub operation_of : ℕ × Task → Option (ℕ × OpKind)
+operation_of (k, Cools t) = None
+operation_of (k, Does op) = Some (k, op)
+
+abbrev pub operations_in : List (ℕ × Task) → List (ℕ × OpKind)
+operations_in es = filter_map operation_of es
 
 -- where operations begin, cooled: the trap of a two-qubit gate or of an exchange of qubits is at the ceiling at most
 abbrev pub BeginCool : MachineData → ℕ → State → List OpKind → Type 0

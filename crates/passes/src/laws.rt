@@ -12,7 +12,7 @@ ghost use Rattle.op_table.specs.Step.{effect, why};
 ghost use Rattle.qccd_program.specs.Implements.{Implements};
 ghost use Rattle.qccd_program.specs.Legal.{IsLegalProgram};
 ghost use Rattle.qccd_program.specs.Program.{ProgramData, opening_of, end_of};
-ghost use Rattle.passes.specs.Cool.{BeginCool, cooled_end};
+ghost use Rattle.passes.specs.Cool.{BeginCool, cooled_end, operations_in, tasks};
 ghost use Rattle.passes.specs.Kept.{FinishNoLater, SameStands};
 ghost use Rattle.op_table.specs.Touch.{touches};
 ghost use Rattle.op_cells.specs.Numbering.{count_of, IsThere};
@@ -59,10 +59,12 @@ pub fn found_in_one_pass()
 {}
 
 /// Where hot traps are cooled before gates, no two-qubit gate and no exchange of qubits begins in a trap with a heat above
-/// the ceiling, and each trap that is cooled had one. The places and bindings at the end are the program's.
+/// the ceiling, and each trap that is cooled had one. The places and bindings at the end are the program's, and so are
+/// the operations, each once and in order.
 pub fn cooled_before_gates()
     ensures cool { (m : MachineData) (ceiling : ℕ) (s : State) (ops : List OpKind) → BeginCool m ceiling s ops }
     ensures ends { (p : ProgramData) (ceiling : ℕ) → IsLegalProgram p → SameStands (cooled_end p ceiling) (end_of p) }
+    ensures operations { (m : MachineData) (ceiling k : ℕ) (s : State) (ops : List OpKind) → operations_in (tasks m ceiling k s ops) ≡ enumerate_from k ops }
 {}
 
 /// The stacks of the pass tell what an operation cancels, and that it cancels nothing; they are kept by what is put on them
