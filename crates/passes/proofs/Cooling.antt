@@ -15,7 +15,7 @@ use Rattle.op_plan.specs.Cold.{cold}
 use Rattle.op_table.proofs.Openings.{opening-safe}
 use Rattle.qccd_program.specs.Legal.{IsLegalProgram}
 use Rattle.qccd_program.specs.Program.{ProgramData, opening_of, end_of}
-use Rattle.passes.specs.Cool.{BeginCool, Task, Cools, Does, cool_before, operations_in, tasks, gate_trap, if_hot, hot_trap, rested, ready, cooled_after, cooled_end}
+use Rattle.passes.specs.Cool.{BeginCool, Does, cool_before, operations_in, tasks, gate_trap, if_hot, hot_trap, rested, ready, cooled_after, cooled_end}
 use Rattle.passes.specs.Kept.{SameStands}
 use Rattle.passes.proofs.Stands.{stands_legal, stands_step}
 

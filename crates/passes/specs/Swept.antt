@@ -1,5 +1,5 @@
 -- The operations that stay, found in one pass.
-use Rattle.std.specs.Prelude.{◌≡◌, ℕ, true, false, List, [], ◌∷◌, ◌++◌, unwrap_or}
+use Rattle.std.specs.Prelude.{◌≡◌, true, false, List, [], ◌∷◌, ◌++◌, unwrap_or}
 use Rattle.std.specs.List.{AllByRecursion}
 use Rattle.op_table.specs.Touch.{meets}
 use Rattle.passes.specs.Undo.{undoes}

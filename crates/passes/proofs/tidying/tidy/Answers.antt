@@ -1,10 +1,10 @@
-use Rattle.std.proofs.Common.{◌≡◌, ◌≤◌, sym, subst, length, Result, Ok, Err, IfOk}
+use Rattle.std.proofs.Common.{◌≤◌, length}
 use Rattle.qccd_circuit.specs.Circuit.{CircuitData}
 use Rattle.qccd_machine.specs.Machine.{MachineData}
 use Rattle.qccd_program.specs.Implements.{Implements}
-use Rattle.qccd_program.specs.Program.{ProgramData, end_of}
+use Rattle.qccd_program.specs.Program.{end_of}
 use Rattle.passes.specs.Kept.{SameStands}
-use Rattle.passes.specs.Tidy.{IsTidy, tidied}
+use Rattle.passes.specs.Tidy.{IsTidy}
 use Rattle.passes.proofs.Keeping.{tidied_ends, tidied_few, tidied_implements, of_tidied}
 use Rattle.passes.proofs.Later.{tidied_no_later}
 use Rattle.passes.proofs.Removing.{staying_tidy}

@@ -1,4 +1,4 @@
-use Rattle.std.proofs.Common.{◌≡◌, sym, subst}
+use Rattle.std.proofs.Common.{sym, subst}
 use Rattle.qccd_program.specs.Legal.{IsLegalProgram}
 use Rattle.qccd_program.specs.Program.{program_data}
 use Rattle.passes.specs.Tidy.{tidied}
