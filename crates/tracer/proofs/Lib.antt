@@ -1,6 +1,8 @@
 pub mod Sharing
 pub mod Listed
 pub mod Ordered
+pub mod Merged
+pub mod LogsRise
 pub mod Kept
 pub mod Collected
 pub mod Ending
@@ -8,3 +10,4 @@ pub mod Loops
 pub mod Tally
 pub mod Rows
 pub mod Written
+pub mod Telling

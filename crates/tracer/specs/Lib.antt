@@ -1,4 +1,5 @@
 pub mod Order
+pub mod Merge
 pub mod TimeOrder
 pub mod ItemOrder
 pub mod Report

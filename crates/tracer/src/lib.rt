@@ -5,6 +5,7 @@ mod counting;
 mod ends;
 mod fault;
 pub mod laws;
+mod merging;
 mod order;
 mod report;
 pub mod worked;

@@ -7,6 +7,7 @@ ghost use Rattle.qccd_io.specs.Sends.{Sends};
 ghost use Rattle.qccd_program.specs.AllCells.{AtEnd};
 ghost use Rattle.op_text.specs.OpText.{next_word};
 ghost use Rattle.tracer.specs.Counted.{Tallied};
+ghost use Rattle.tracer.specs.Merge.{Merged};
 ghost use Rattle.tracer.specs.Order.{ordered};
 ghost use Rattle.tracer.specs.Report.{labelled, op_line, report_text, size_line, start_line};
 ghost use Rattle.tracer.specs.Summary.{summary_text};
@@ -16,7 +17,7 @@ ghost use Rattle.tracer.specs.Reports.{Reports};
 use crate::counting::{count, counts_of, send_counts};
 use crate::ends::{last_finish, send_ends, traps_heat};
 use crate::fault::ReportFault;
-use crate::order::{order_in_place, time_order};
+use crate::merging::{Head, heads_of, take_first};
 use op_cells::{Cells, Done};
 use op_table::Op;
 use op_text::{put_op, write_op};
@@ -160,8 +161,12 @@ fn op_of(ops: &[Op], number: u32) -> &Op
 
 // The lines of the operations, and how many stand in each column. They are counted as they are sent, while each is
 // at hand.
-fn send_ops<S: Sink>(sink: &mut S, program: &Program, order: &[Done]) -> Result<[u64; 12], Failed>
-    requires { order.now ≡ ordered program.now }
+fn send_ops<S: Sink>(
+    sink: &mut S,
+    program: &Program,
+    heads: &mut Vec<Head<'_>>,
+) -> Result<[u64; 12], Failed>
+    requires { Merged heads.old.items (ordered program.now) }
     ensures sent { Sends S.taken S.faults S.behind sink.old sink.new result (flat_map op_line (time_order program.now)) }
     ensures counted { IfOk result (λ counts. Tallied program.now.ops counts) }
 {
@@ -169,9 +174,9 @@ fn send_ops<S: Sink>(sink: &mut S, program: &Program, order: &[Done]) -> Result<
     let mut counts = [0; 12];
     // One piece serves for all lines.
     let mut piece = Piece::new();
-    for done in order {
+    while let Some(done) = take_first(heads) {
         let op = op_of(ops, done.op);
-        send_op(sink, &mut piece, done, op)?;
+        send_op(sink, &mut piece, &done, op)?;
         count(&mut counts, op);
     }
     Ok(counts)
@@ -187,37 +192,37 @@ fn send_front<S: Sink>(sink: &mut S, program: &Program) -> Result<(), Failed>
     send_total(sink, b"ops ", program.ops().len() as u64)
 }
 
-// The report of a program from its cells at the end and its operations in the order of time.
+// The report of a program from its cells at the end and their logs.
 fn send_report<S: Sink>(
     sink: &mut S,
     program: &Program,
     cells: &Cells,
-    order: &[Done],
+    heads: &mut Vec<Head<'_>>,
 ) -> Result<(), Failed>
     requires at_end { AtEnd program.now cells.now }
-    requires ordered { order.now ≡ ordered program.now }
+    requires merged { Merged heads.old.items (ordered program.now) }
     ensures { Sends S.taken S.faults S.behind sink.old sink.new result (report_text program.now) }
 {
     let finish = last_finish(program, cells);
     send_front(sink, program)?;
-    let counts = send_ops(sink, program, order)?;
+    let counts = send_ops(sink, program, heads)?;
     send_ends(sink, program, cells)?;
     send_counts(sink, &counts)?;
     send_total(sink, b"finish ", finish)
 }
 
-// The report from the operations in the order of time. Only writing can fail.
-fn report_in_order<S: Sink>(
+// The report from the logs. Only writing can fail.
+fn report_from<S: Sink>(
     sink: &mut S,
     program: &Program,
     cells: &Cells,
-    order: &[Done],
+    heads: &mut Vec<Head<'_>>,
 ) -> Result<(), ReportFault>
     requires at_end { AtEnd program.now cells.now }
-    requires ordered { order.now ≡ ordered program.now }
+    requires merged { Merged heads.old.items (ordered program.now) }
     ensures { Reports S.taken S.faults S.behind sink.old sink.new result (report_text program.now) }
 {
-    match send_report(sink, program, cells, order) {
+    match send_report(sink, program, cells, heads) {
         Ok(()) => Ok(()),
         Err(Failed) => Err(ReportFault::Write),
     }
@@ -235,13 +240,11 @@ pub fn write_report<S: Sink>(
     requires { AtEnd program.now cells.now }
     ensures { Reports S.taken S.faults S.behind sink.old sink.new result (report_text program.now) }
 {
-    if let Some(order) = order_in_place(program, cells) {
-        return report_in_order(sink, program, cells, order);
-    }
-    let Ok(order) = time_order(alloc, program, cells) else {
+    let _ops = program.ops();
+    let Ok(mut heads) = heads_of(alloc, cells.as_slice()) else {
         return Err(ReportFault::NoMemory);
     };
-    report_in_order(sink, program, cells, order.as_slice())
+    report_from(sink, program, cells, &mut heads)
 }
 
 // The first line of a summary.
