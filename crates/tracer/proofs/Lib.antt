@@ -11,3 +11,4 @@ pub mod Tally
 pub mod Rows
 pub mod Written
 pub mod Telling
+pub mod ReadOff

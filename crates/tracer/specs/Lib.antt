@@ -7,6 +7,7 @@ pub mod Counted
 pub mod Summary
 pub mod FaultText
 pub mod Reports
+pub mod ReadOff
 pub mod Bell
 pub mod Scattered
 pub mod Transported

@@ -1,6 +1,7 @@
 //! What holds of every program. Each function does nothing: its contract is the law.
 
-ghost use Rattle.std.specs.Prelude.{◌≡◌};
+ghost use Rattle.std.specs.Prelude.{◌≡◌, length};
+ghost use Rattle.qccd_machine.specs.Machine.{IsValid};
 ghost use Rattle.std.specs.List.{enumerate_from};
 ghost use Rattle.op_table.specs.Clock.{timed};
 ghost use Rattle.op_table.specs.Run.{IsRun, after};
@@ -8,6 +9,8 @@ ghost use Rattle.qccd_program.specs.Legal.{IsLegalProgram};
 ghost use Rattle.qccd_program.specs.Program.{ProgramData, opening_of, end_of};
 ghost use Rattle.tracer.specs.ItemOrder.{KeepsItemOrder};
 ghost use Rattle.tracer.specs.Order.{Alike};
+ghost use Rattle.tracer.specs.ReadOff.{SameSizes};
+ghost use Rattle.tracer.specs.Report.{report_text};
 ghost use Rattle.tracer.specs.TimeOrder.{listed_ops, time_order, KeepsBoundsListed, KeepsOpOrder};
 
 /// The operations of a program in the order of time are all its operations, each once with its number and times,
@@ -20,4 +23,11 @@ pub fn listed_order()
     ensures bounds { (p : ProgramData) → IsLegalProgram p → KeepsBoundsListed p }
     ensures ops { (p : ProgramData) → KeepsOpOrder (time_order p) }
     ensures items { (p : ProgramData) → IsLegalProgram p → KeepsItemOrder p.ops (listed_ops p) }
+{}
+
+/// Two programs with one report have the same sizes, the same start chains and as many operations.
+pub fn equal_reports()
+    ensures sizes { (p q : ProgramData) → IsLegalProgram p → IsLegalProgram q → IsValid p.machine → IsValid q.machine → report_text p ≡ report_text q → SameSizes p q }
+    ensures start { (p q : ProgramData) → IsLegalProgram p → IsLegalProgram q → IsValid p.machine → IsValid q.machine → report_text p ≡ report_text q → p.start ≡ q.start }
+    ensures count { (p q : ProgramData) → IsLegalProgram p → IsLegalProgram q → IsValid p.machine → IsValid q.machine → report_text p ≡ report_text q → length p.ops ≡ length q.ops }
 {}
