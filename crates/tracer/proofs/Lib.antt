@@ -12,3 +12,4 @@ pub mod Rows
 pub mod Written
 pub mod Telling
 pub mod ReadOff
+pub mod TextsRead

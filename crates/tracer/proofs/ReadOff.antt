@@ -14,15 +14,15 @@ use Rattle.qccd_program.specs.Program.{ProgramData}
 use Rattle.op_text.specs.OpText.{next_word}
 use Rattle.tracer.specs.ReadOff.{SameSizes}
 use Rattle.tracer.specs.TimeOrder.{time_order}
-use Rattle.tracer.specs.Report.{labelled, size_line, start_line, op_line, end_lines, counts_line, last_finish, report_text}
+use Rattle.tracer.specs.Report.{labelled, start_line, op_line, end_lines, counts_line, last_finish, report_text}
 
 -- a label and a number, and a rest that begins with no digit
-after_number : {rest next : List ℕ} (label : List ℕ) (m n : ℕ) → m < 2 ^ 64 → n < 2 ^ 64 → label ++ (decimal m ++ rest) ≡ label ++ (decimal n ++ next)
+pub after_number : {rest next : List ℕ} (label : List ℕ) (m n : ℕ) → m < 2 ^ 64 → n < 2 ^ 64 → label ++ (decimal m ++ rest) ≡ label ++ (decimal n ++ next)
     → Ends IsDigit rest → Ends IsDigit next → (m ≡ n) × (rest ≡ next)
 after_number {rest} {next} label m n small_m small_n same ends stops =
     decimal-front-unique m n rest next small_m small_n ends stops (append_cancel_left label (decimal m ++ rest) (decimal n ++ next) same)
 
-no_space : IsDigit 32 → ⊥
+pub no_space : IsDigit 32 → ⊥
 no_space digit = absurd (omega (arith, digit.0))
 
 no_feed : IsDigit 10 → ⊥

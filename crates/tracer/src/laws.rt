@@ -1,15 +1,16 @@
 //! What holds of every program. Each function does nothing: its contract is the law.
 
-ghost use Rattle.std.specs.Prelude.{◌≡◌, length};
+ghost use Rattle.std.specs.Prelude.{◌≡◌, length, map};
 ghost use Rattle.qccd_machine.specs.Machine.{IsValid};
 ghost use Rattle.std.specs.List.{enumerate_from};
 ghost use Rattle.op_table.specs.Clock.{timed};
 ghost use Rattle.op_table.specs.Run.{IsRun, after};
 ghost use Rattle.qccd_program.specs.Legal.{IsLegalProgram};
 ghost use Rattle.qccd_program.specs.Program.{ProgramData, opening_of, end_of};
+ghost use Rattle.op_text.specs.OpText.{op_text};
 ghost use Rattle.tracer.specs.ItemOrder.{KeepsItemOrder};
 ghost use Rattle.tracer.specs.Order.{Alike};
-ghost use Rattle.tracer.specs.ReadOff.{SameSizes};
+ghost use Rattle.tracer.specs.ReadOff.{AreLines, SameSizes};
 ghost use Rattle.tracer.specs.Report.{report_text};
 ghost use Rattle.tracer.specs.TimeOrder.{listed_ops, time_order, KeepsBoundsListed, KeepsOpOrder};
 
@@ -25,9 +26,11 @@ pub fn listed_order()
     ensures items { (p : ProgramData) → IsLegalProgram p → KeepsItemOrder p.ops (listed_ops p) }
 {}
 
-/// Two programs with one report have the same sizes, the same start chains and as many operations.
+/// Two programs with one report have the same sizes, the same start chains and as many operations. The texts of
+/// their operations are the same, each in its place, where each text stands in one line.
 pub fn equal_reports()
     ensures sizes { (p q : ProgramData) → IsLegalProgram p → IsLegalProgram q → IsValid p.machine → IsValid q.machine → report_text p ≡ report_text q → SameSizes p q }
     ensures start { (p q : ProgramData) → IsLegalProgram p → IsLegalProgram q → IsValid p.machine → IsValid q.machine → report_text p ≡ report_text q → p.start ≡ q.start }
     ensures count { (p q : ProgramData) → IsLegalProgram p → IsLegalProgram q → IsValid p.machine → IsValid q.machine → report_text p ≡ report_text q → length p.ops ≡ length q.ops }
+    ensures ops { (p q : ProgramData) → IsLegalProgram p → IsLegalProgram q → IsValid p.machine → IsValid q.machine → AreLines p.ops → AreLines q.ops → report_text p ≡ report_text q → map op_text p.ops ≡ map op_text q.ops }
 {}

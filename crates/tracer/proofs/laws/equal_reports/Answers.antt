@@ -1,4 +1,5 @@
 use Rattle.tracer.proofs.ReadOff.{front_read}
+use Rattle.tracer.proofs.TextsRead.{texts_read}
 use Rattle.tracer.proofs.laws.equal_reports.Goals as goal
 
 pub returns-clause-sizes : goal.returns-clause-sizes
@@ -9,3 +10,6 @@ returns-clause-start c = λ p q one other valid well same. (front_read p q one o
 
 pub returns-clause-count : goal.returns-clause-count
 returns-clause-count c = λ p q one other valid well same. (front_read p q one other valid well same).2
+
+pub returns-clause-ops : goal.returns-clause-ops
+returns-clause-ops c = texts_read
