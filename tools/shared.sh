@@ -1,0 +1,77 @@
+# shellcheck shell=bash
+# What the scripts ./qccd, ./qccd-try and tools/build share: which words are a command, where the program is, and
+# whether it is built. They read this with `.`; `top` is the folder of the repository.
+
+# shellcheck disable=SC2154
+program=$top/crates/qccd/out/qccd
+
+# Prints the usage, as the program's own source has it.
+print_usage() {
+    sed -n '/^const USAGE/,/^";/{//!p}' "$top/crates/qccd_messages/src/refusal.rt"
+}
+
+# Whether a word can name a machine: any but those that begin with @ and are no preset.
+names_machine() {
+    [[ $1 =~ ^@(single|L6|G2x3)(:([2-9]|[12][0-9]|3[0-2]))?$ || $1 != @* ]]
+}
+
+# Whether a word is a number from low to high, with no leading zero and no sign.
+is_number() {
+    local word=$1 low=$2 high=$3
+    [[ $word =~ ^(0|[1-9][0-9]{0,9})$ ]] && ((word >= low && word <= high))
+}
+
+# Whether these words end a command that makes a program: none, or how ions change places.
+name_swap() {
+    case $#:$* in
+        0: | 2:'--swap ion' | 2:'--swap gate') ;;
+        *) return 1 ;;
+    esac
+}
+
+# Whether the words are one of the five commands. Other words have no reading, whatever the program's age.
+are_command() {
+    case ${1-} in
+        run | compile) (($# >= 3)) && names_machine "$2" && name_swap "${@:4}" ;;
+        exec) (($# == 3)) && names_machine "$2" ;;
+        check) (($# == 4)) && names_machine "$2" ;;
+        rehearse)
+            (($# == 5)) && is_number "$2" 0 2147483647 && is_number "$3" 1 256 && is_number "$4" 0 65536 &&
+                names_machine "$5"
+            ;;
+        *) return 1 ;;
+    esac
+}
+
+# The crates that the program stands on and the program itself, one on a line with those of this repository that it
+# stands on. crates.txt lists the lowest first.
+print_crates() {
+    awk '
+        /^[a-z]/ {
+            words = split($0, word, /[: ]+/)
+            order[++count] = word[1]
+            below[word[1]] = ""
+            for (w = 2; w <= words; w++) if (word[w] in below) below[word[1]] = below[word[1]] " " word[w]
+        }
+        END {
+            needed["qccd"] = 1
+            for (n = count; n > 0; n--)
+                if (order[n] in needed) {
+                    words = split(below[order[n]], word, " ")
+                    for (w = 1; w <= words; w++) needed[word[w]] = 1
+                }
+            for (n = 1; n <= count; n++) if (order[n] in needed) print order[n] below[order[n]]
+        }' "$top/crates.txt"
+}
+
+# Whether the program is there and no source of its own crates is newer.
+is_built() {
+    [ -x "$program" ] || return 1
+    local sources=() crate part
+    while read -r crate _; do
+        for part in src specs proofs; do
+            [ ! -d "$top/crates/$crate/$part" ] || sources+=("$top/crates/$crate/$part")
+        done
+    done < <(print_crates)
+    [ -z "$(find "${sources[@]}" "$top/crates.txt" -type f -newer "$program" -print -quit)" ]
+}
