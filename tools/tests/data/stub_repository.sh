@@ -62,7 +62,8 @@ forget() {
 # Runs a command with the stand-in, and keeps what it writes and its status.
 call() {
     PATH=$folder/bin:$PATH "$@" >"$folder/stdout" 2>"$folder/stderr" </dev/null
-    status=$? # shellcheck disable=SC2034
+    # shellcheck disable=SC2034  # read by the tests
+    status=$?
 }
 
 # Compares a status, a text or a number with the one that is wanted.
