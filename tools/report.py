@@ -157,15 +157,17 @@ class Report:
         return map(Operation, self.lines())
 
     def operations_within(self, first, last):
-        """The operations of which some part is between these two times, in their order."""
+        """The operations of which some part is between these two times, in their order; one that takes no time
+        counts where it stands."""
         for line in self.lines():
-            numbers = line.split(None, 3)
-            if len(numbers) > 3 and numbers[1].isdigit() and numbers[2].isdigit():
-                if int(numbers[1]) > last:
-                    return
-                if int(numbers[2]) < first:
-                    continue
-            yield Operation(line)
+            try:
+                start, finish = (int(word) for word in line.split(None, 3)[1:3])
+            except ValueError:
+                raise NotAReport(f"no operation: {line.decode('ascii', 'replace').strip()}") from None
+            if start > last:
+                return
+            if (start < last and finish > first) or first <= start == finish:
+                yield Operation(line)
 
     def places(self):
         """The names of all traps, segments and junctions."""
