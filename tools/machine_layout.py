@@ -6,8 +6,8 @@ import collections
 import re
 
 EAST, WEST, SOUTH, NORTH = (1, 0), (-1, 0), (0, 1), (0, -1)
-# How many parts stand in a row of a line that is folded.
-LONGEST_ROW = 12
+# How many parts that are joined to none stand in a row.
+ALONE = 6
 
 
 def opposite(direction):
@@ -97,14 +97,14 @@ class Spot:
 
 
 class Layout:
-    """Spots for the traps and junctions of a machine.
+    """Spots for the traps and junctions of a machine, with about so many in a row.
 
     Traps and junctions stand in cells of a grid, neighbours next to each other where that can be. Of two ways to lay it
     out the one with fewer bent segments is taken. A ring, and a line that is too long, is folded into rows.
     """
 
-    def __init__(self, traps, junctions, joins):
-        self.joins = joins
+    def __init__(self, traps, junctions, joins, longest):
+        self.joins, self.longest = joins, longest
         names = [f"T{number}" for number in range(traps)] + [f"J{number}" for number in range(junctions)]
         self.neighbours = collections.defaultdict(list)
         for ends in joins.values():
@@ -156,7 +156,7 @@ class Layout:
         lowest = max(row for _, row in taken)
         left, right = min(column for column, _ in taken), max(column for column, _ in taken)
         after = max(column for column, row in taken if row == lowest) + 1
-        if is_alone and after - left <= max(right - left, LONGEST_ROW // 2 - 1):
+        if is_alone and after - left <= max(right - left, ALONE - 1):
             return (after, lowest)
         return (left, lowest + 1)
 
@@ -188,7 +188,7 @@ class Layout:
         if len({self.spots[name].cell[1] for name in joined}) != 1 or self.bends(self.spots) > 1:
             return
         row = sorted(joined, key=lambda name: self.spots[name].cell[0])
-        rows = 2 if self.bends(self.spots) == 1 and len(row) > 2 else -(-len(row) // LONGEST_ROW)
+        rows = 2 if self.bends(self.spots) == 1 and len(row) > 2 else -(-len(row) // self.longest)
         length = -(-len(row) // rows)
         if rows == 1:
             return

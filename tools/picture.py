@@ -30,6 +30,8 @@ text {{ {FONT}; font-size:11px; fill:#333 }}
 
 ION = 9          # the radius of an ion
 PITCH = 21       # from ion to ion in a chain
+ZIGZAG = 12      # the same in a long chain, which is drawn in zigzag
+LONG = 8         # the most ions that are drawn in a straight chain
 GAP = 58         # between two columns of parts
 LINE_GAP = 44    # between two rows of parts
 
@@ -49,24 +51,30 @@ def text_at(x, y, text, names="", more=""):
     return f'<text x="{x:.1f}" y="{y:.1f}" class="{names}"{more}>{escaped(text)}</text>'
 
 
+def trap_size(room):
+    """The length and the height of a trap for so many ions."""
+    if room > LONG:
+        return (room * ZIGZAG + 20, 44)
+    return (max(room, 2) * PITCH + 10, 30)
+
+
 class MachinePicture:
     """A machine: traps with the ions in them, segments and junctions.
 
-    chains: the qubits in each trap, from its left end to its right one; rooms: how many ions each is drawn for;
-    capacities: how many it holds, or None where that isn't known.
+    held: the ions that each place holds, each with the number that is drawn and what it says, a trap's from its left end
+    to its right one; rooms: for how many ions each trap is drawn; is_known: whether that is how many it can hold.
     """
 
-    def __init__(self, layout, chains, rooms, capacities):
-        self.layout, self.chains, self.rooms, self.capacities = layout, chains, rooms, capacities
-        self.parts = []
+    def __init__(self, layout, held, rooms, is_known):
+        self.layout, self.held, self.rooms, self.is_known = layout, held, rooms, is_known
+        self.parts, self.ions = [], []
         self.lay_out()
 
     def size_of(self, name):
         """The width and the height of a part."""
         if name[0] == "J":
             return (30, 30)
-        room = self.rooms[int(name[1:])]
-        long, high = max(room, 2) * PITCH + 10, 30
+        long, high = trap_size(self.rooms[int(name[1:])])
         return (long, high) if self.layout.spots[name].heading[1] == 0 else (high, long)
 
     def lay_out(self):
@@ -126,10 +134,12 @@ class MachinePicture:
         curve = " ".join(f"{bend[0]:.1f} {bend[1]:.1f}" for bend in bends + [(to_x, to_y)])
         self.parts.append(f'<path class="wire" d="M{x:.1f} {y:.1f} C{curve}"/>')
         middle = [(a + 3 * b + 3 * c + d) / 8 for a, b, c, d in zip((x, y), bends[0], bends[1], (to_x, to_y))]
+        for ion in self.held.get(name, []):
+            self.add_ion(middle, ion)
         if ways[0][0] != 0 and abs(y - to_y) < 1:
-            self.parts.append(text_at(middle[0], middle[1] - 7, name, "mid faint halo"))
+            self.parts.append(text_at(middle[0], middle[1] - 9, name, "mid faint halo"))
         else:
-            self.parts.append(text_at(middle[0] + 8, middle[1] + 4, name, "faint halo"))
+            self.parts.append(text_at(middle[0] + 11, middle[1] + 4, name, "faint halo"))
 
     def add_stub(self, name, end):
         """Draws a segment of which only one end is known."""
@@ -147,23 +157,35 @@ class MachinePicture:
         self.parts.append(f'<rect class="trap" x="{x - wide / 2:.1f}" y="{y - high / 2:.1f}" width="{wide}" '
                           f'height="{high}" rx="15"/>')
         self.parts.append(text_at(x, y - high / 2 - 6, name, "mid head halo"))
-        way = self.layout.spots[name].heading
-        chain, capacity = self.chains[number], self.capacities and self.capacities[number]
-        places = max(len(chain), capacity or 0)
+        chain, room = self.held.get(name, []), self.rooms[number]
+        places = room if self.is_known else len(chain)
         for place in range(places):
-            at = (place - (places - 1) / 2) * PITCH
-            ion_x, ion_y = x + way[0] * at, y + way[1] * at
-            if place >= len(chain):
-                self.parts.append(f'<circle class="slot" cx="{ion_x:.1f}" cy="{ion_y:.1f}" r="{ION - 2}"/>')
-                continue
-            self.parts.append(f'<g><title>{escaped(chain[place][1])}</title><circle class="ion" cx="{ion_x:.1f}" '
-                              f'cy="{ion_y:.1f}" r="{ION}"/>{text_at(ion_x, ion_y + 4, chain[place][0], "mid")}</g>')
+            at = self.spot_of_ion(name, place, places)
+            if place < len(chain):
+                self.add_ion(at, chain[place])
+            else:
+                self.parts.append(f'<circle class="slot" cx="{at[0]:.1f}" cy="{at[1]:.1f}" r="{ION - 2}"/>')
+
+    def spot_of_ion(self, name, place, places):
+        """Where the ion at a position stands, in a trap that is drawn with so many."""
+        (x, y), way = self.middle(name), self.layout.spots[name].heading
+        is_long = self.rooms[int(name[1:])] > LONG
+        along = (place - (places - 1) / 2) * (ZIGZAG if is_long else PITCH)
+        aside = (7 if place % 2 else -7) * is_long
+        return (x + along * way[0] + aside * abs(way[1]), y + along * way[1] + aside * abs(way[0]))
+
+    def add_ion(self, at, ion):
+        """Draws an ion at a point."""
+        self.ions.append(f'<g><title>{escaped(ion[1])}</title><circle class="ion" cx="{at[0]:.1f}" cy="{at[1]:.1f}" '
+                         f'r="{ION}"/>{text_at(at[0], at[1] + 4, ion[0], "mid")}</g>')
 
     def add_junction(self, name):
         """Draws a junction."""
         x, y = self.middle(name)
         self.parts.append(f'<circle class="junction" cx="{x:.1f}" cy="{y:.1f}" r="15"/>')
         self.parts.append(text_at(x, y + 4, name, "mid"))
+        for ion in self.held.get(name, []):
+            self.add_ion((x + 13, y + 13), ion)
 
     def drawn(self):
         """The picture's lines of SVG."""
@@ -180,7 +202,7 @@ class MachinePicture:
                 self.add_trap(int(name[1:]))
             else:
                 self.add_junction(name)
-        return self.parts
+        return self.parts + self.ions
 
 
 def step_of_axis(time, marks):
@@ -198,9 +220,9 @@ class RunPicture:
 
     LEFT, RIGHT, ROW, BAR = 46, 128, 24, 18
 
-    def __init__(self, width, first, last, places, rests, hottest):
-        self.width, self.first, self.last, self.places = width, first, last, places
-        self.rests, self.hottest = rests, hottest
+    def __init__(self, width, first, last, places, rests):
+        self.first, self.last, self.rests = first, last, rests
+        self.hottest = max([rest.heat for rest in rests], default=0)
         self.scale = (width - self.LEFT - self.RIGHT) / (last - first)
         self.top = 24
         self.tops, at = {}, self.top
@@ -211,6 +233,7 @@ class RunPicture:
         self.bottom = at
         self.height = at + 4
         self.parts = []
+        self.add_grid()
 
     def x_of(self, time):
         """Where a time stands."""
@@ -243,19 +266,20 @@ class RunPicture:
                           f'<rect x="{x:.1f}" y="{top + 5}" width="{long:.1f}" height="{self.BAR - 6}" fill="#e0603c"/>'
                           f'{text_at(x + long + 4, top + 15, grouped(rest.heat))}</g>')
 
-    def add(self, operation, label):
-        """Draws an operation's bars."""
+    def add(self, operation, labels, more):
+        """Draws an operation's bars, with the first of the labels for which they have room, and with more in words."""
         x, end = self.x_of(operation.start), self.x_of(operation.finish)
         long = max(end - x, 1.2)
         colour, ink = COLOURS[operation.kind]
-        title = f"{operation}\n{operation.finish - operation.start} \u00b5s"
+        title = f"{operation}\n{grouped(operation.finish - operation.start)} \u00b5s{more}"
+        label = next((label for label in labels if len(label) * 6.6 + 5 < long), "")
         bars = [f'<g class="o"><title>{escaped(title)}</title>']
         for place in operation.places:
             if place in self.tops:
                 top = self.tops[place] + (self.ROW - 2 - self.BAR) / 2
                 bars.append(f'<rect x="{x:.2f}" y="{top:.1f}" width="{max(long - 0.6, 1):.2f}" height="{self.BAR}" '
                             f'rx="{min(3, long / 4):.1f}" fill="{colour}"/>')
-                if len(label) * 6.6 + 6 < long:
+                if label:
                     bars.append(text_at(x + long / 2, top + 13, label, "mid", f' style="fill:{ink}"'))
         self.parts.append("".join(bars) + "</g>")
 
@@ -267,11 +291,11 @@ def legend(kinds, width):
         if kind not in kinds:
             continue
         label = f"{NAMES.get(kind, kind)} {grouped(kinds[kind])}"
-        if x + 30 + len(label) * 7 > width:
+        if x + 30 + len(label) * 6.5 > width:
             x, y = 46, y + 20
-        parts.append(f'<rect x="{x}" y="{y - 10}" width="14" height="12" rx="2" fill="{COLOURS[kind][0]}"/>')
+        parts.append(f'<rect x="{x:.1f}" y="{y - 10}" width="14" height="12" rx="2" fill="{COLOURS[kind][0]}"/>')
         parts.append(text_at(x + 20, y, label))
-        x += 40 + len(label) * 7
+        x += 44 + len(label) * 6.5
     return parts, y + 12
 
 

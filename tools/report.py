@@ -11,6 +11,11 @@ import sys
 
 # The kinds of operations, as the line `counts` of a report names them.
 KINDS = ["split", "merge", "move", "enter", "leave", "rot", "gswap", "gate1", "gate2", "measure", "reset", "fence"]
+# The line of an operation, as every report has it.
+LINE = re.compile(rb"""(\d+)[ ](\d+)[ ](\d+)[ ]
+    ( split[ ]T\d+[ ](?:left|right)[ ]S\d+ | move[ ]S\d+ | enter[ ]S\d+[ ]J\d+ | leave[ ]J\d+[ ]S\d+
+    | merge[ ]S\d+[ ]T\d+[ ](?:left|right) | rot[ ]T\d+[ ]\d+ | gswap[ ]T\d+[ ]\d+[ ]\d+
+    | item[ ]\d+[ ][!-~]+[ ]T\d+(?:[ ]q\d+@\d+){1,2}(?:[ ]b\d+)? | fence[ ]\d+(?:[ ]T\d+)+(?:[ ]q\d+)+ )\s*""", re.VERBOSE)
 # The last lines of a report, from the first `end` on, never have more bytes than this.
 TAIL = 1 << 16
 
@@ -33,13 +38,11 @@ class Operation:
     __slots__ = ("number", "start", "finish", "words")
 
     def __init__(self, line):
-        words = line.split()
-        try:
-            self.number, self.start, self.finish = (int(word) for word in words[:3])
-            self.words = [word.decode("ascii", "replace") for word in words[3:]]
-            self.words[0]
-        except (ValueError, IndexError):
-            raise NotAReport(f"no operation: {line.decode('ascii', 'replace').strip()}") from None
+        found = LINE.fullmatch(line)
+        if not found:
+            raise NotAReport(f"no operation: {line.decode('ascii', 'replace').strip()}")
+        self.number, self.start, self.finish = int(found[1]), int(found[2]), int(found[3])
+        self.words = found[4].decode("ascii").split(" ")
 
     def __str__(self):
         return " ".join([str(self.number), str(self.start), str(self.finish)] + self.words)
@@ -51,7 +54,7 @@ class Operation:
             return self.words[0]
         if self.words[2] in ("measure", "reset"):
             return self.words[2]
-        return "gate2" if len(self.words) > 5 else "gate1"
+        return "gate2" if self.words[-2][0] == "q" else "gate1"
 
     @property
     def item(self):
@@ -68,9 +71,8 @@ class Operation:
     @property
     def qubits(self):
         """The numbers of the item's qubits."""
-        if self.words[0] not in ("item", "fence"):
-            return []
-        return [int(word[1:].split("@")[0]) for word in self.words[2:] if re.fullmatch(r"q\d+(@\d+)?", word)]
+        words = self.words[4:] if self.words[0] == "item" else self.words[2:] if self.words[0] == "fence" else []
+        return [int(word[1:].split("@")[0]) for word in words if word[0] == "q"]
 
     @property
     def places(self):
