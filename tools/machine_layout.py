@@ -192,6 +192,9 @@ class Layout:
         length = -(-len(row) // rows)
         if rows == 1:
             return
+        if self.bends(self.spots) == 1:
+            first = row.index(next(iter(self.spots)))
+            row = row[first:] + row[:first]
         for name in self.spots:
             if name not in joined:
                 self.spots[name].cell = moved(self.spots[name].cell, (0, rows - 1))

@@ -16,6 +16,7 @@ text {{ {FONT}; font-size:11px; fill:#333 }}
 .title {{ font-size:15px; font-weight:bold; fill:#111 }}
 .head {{ font-size:12px; font-weight:bold; fill:#444 }}
 .faint {{ fill:#777 }}
+.small {{ font-size:9px }}
 .mid {{ text-anchor:middle }}
 .right {{ text-anchor:end }}
 .halo {{ paint-order:stroke; stroke:#fff; stroke-width:4px }}
@@ -51,10 +52,10 @@ def text_at(x, y, text, names="", more=""):
     return f'<text x="{x:.1f}" y="{y:.1f}" class="{names}"{more}>{escaped(text)}</text>'
 
 
-def trap_size(room):
-    """The length and the height of a trap for so many ions."""
-    if room > LONG:
-        return (room * ZIGZAG + 20, 44)
+def trap_size(room, is_long):
+    """The length and the height of a trap for so many ions, in a straight chain or a long one."""
+    if is_long:
+        return (max(room, 3) * ZIGZAG + 20, 44)
     return (max(room, 2) * PITCH + 10, 30)
 
 
@@ -68,13 +69,14 @@ class MachinePicture:
     def __init__(self, layout, held, rooms, is_known):
         self.layout, self.held, self.rooms, self.is_known = layout, held, rooms, is_known
         self.parts, self.ions = [], []
+        self.are_long = max(rooms) > LONG
         self.lay_out()
 
     def size_of(self, name):
         """The width and the height of a part."""
         if name[0] == "J":
             return (30, 30)
-        long, high = trap_size(self.rooms[int(name[1:])])
+        long, high = trap_size(self.rooms[int(name[1:])], self.are_long)
         return (long, high) if self.layout.spots[name].heading[1] == 0 else (high, long)
 
     def lay_out(self):
@@ -169,9 +171,8 @@ class MachinePicture:
     def spot_of_ion(self, name, place, places):
         """Where the ion at a position stands, in a trap that is drawn with so many."""
         (x, y), way = self.middle(name), self.layout.spots[name].heading
-        is_long = self.rooms[int(name[1:])] > LONG
-        along = (place - (places - 1) / 2) * (ZIGZAG if is_long else PITCH)
-        aside = (7 if place % 2 else -7) * is_long
+        along = (place - (places - 1) / 2) * (ZIGZAG if self.are_long else PITCH)
+        aside = (7 if place % 2 else -7) * self.are_long
         return (x + along * way[0] + aside * abs(way[1]), y + along * way[1] + aside * abs(way[0]))
 
     def add_ion(self, at, ion):
@@ -251,8 +252,8 @@ class RunPicture:
             x = self.x_of(time)
             self.parts.append(f'<path d="M{x:.1f} {self.top - 5}V{self.bottom}" stroke="#d5dae0"/>')
             self.parts.append(text_at(x, self.top - 9, grouped(time), "mid faint"))
-        self.parts.append(text_at(self.LEFT - 8, self.top - 9, "\u00b5s", "right faint"))
-        self.parts.append(text_at(end + 10, self.top - 9, "heat at the end", "faint"))
+        self.parts.append(text_at(0, self.top - 9, "\u00b5s", "faint"))
+        self.parts.append(text_at(end + self.RIGHT, self.top - 9, "final heat", "right faint"))
         for rest in self.rests:
             if rest.place in self.tops and (rest.heat or rest.place[0] == "T"):
                 self.add_heat(rest, end + 10)
@@ -273,6 +274,8 @@ class RunPicture:
         colour, ink = COLOURS[operation.kind]
         title = f"{operation}\n{grouped(operation.finish - operation.start)} \u00b5s{more}"
         label = next((label for label in labels if len(label) * 6.6 + 5 < long), "")
+        names = "mid" if label else "mid small"
+        label = label or next((label for label in labels if len(label) * 5.4 + 3 < long), "")
         bars = [f'<g class="o"><title>{escaped(title)}</title>']
         for place in operation.places:
             if place in self.tops:
@@ -280,7 +283,7 @@ class RunPicture:
                 bars.append(f'<rect x="{x:.2f}" y="{top:.1f}" width="{max(long - 0.6, 1):.2f}" height="{self.BAR}" '
                             f'rx="{min(3, long / 4):.1f}" fill="{colour}"/>')
                 if label:
-                    bars.append(text_at(x + long / 2, top + 13, label, "mid", f' style="fill:{ink}"'))
+                    bars.append(text_at(x + long / 2, top + 13, label, names, f' style="fill:{ink}"'))
         self.parts.append("".join(bars) + "</g>")
 
 
