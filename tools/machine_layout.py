@@ -100,7 +100,7 @@ class Layout:
     """Spots for the traps and junctions of a machine, with about so many in a row.
 
     Traps and junctions stand in cells of a grid, neighbours next to each other where that can be. Of two ways to lay it
-    out the one with fewer bent segments is taken. A ring, and a line that is too long, is folded into rows.
+    out the one with fewer bent segments is taken, then the one with fewer rows. A ring, and a line that is too long, is folded into rows.
     """
 
     def __init__(self, traps, junctions, joins, longest):
@@ -112,7 +112,7 @@ class Layout:
                 for end, other in (ends, ends[::-1]):
                     self.neighbours[end[0]].append((end[1], other))
         ways = [self.spots_of(names, first) for first in (SOUTH, EAST)]
-        self.spots = min(ways, key=self.bends)
+        self.spots = min(ways, key=lambda spots: (self.bends(spots), len({spot.cell[1] for spot in spots.values()})))
         self.fold()
 
     def ways_out(self, spot, name, port, other, first):

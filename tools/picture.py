@@ -138,10 +138,11 @@ class MachinePicture:
         middle = [(a + 3 * b + 3 * c + d) / 8 for a, b, c, d in zip((x, y), bends[0], bends[1], (to_x, to_y))]
         for ion in self.held.get(name, []):
             self.add_ion(middle, ion)
+        room = ION + 3 if self.held.get(name) else 6
         if ways[0][0] != 0 and abs(y - to_y) < 1:
-            self.parts.append(text_at(middle[0], middle[1] - 9, name, "mid faint halo"))
+            self.parts.append(text_at(middle[0], middle[1] - room - 2, name, "mid faint halo"))
         else:
-            self.parts.append(text_at(middle[0] + 11, middle[1] + 4, name, "faint halo"))
+            self.parts.append(text_at(middle[0] + room + 3, middle[1] + 4, name, "faint halo"))
 
     def add_stub(self, name, end):
         """Draws a segment of which only one end is known."""
@@ -158,7 +159,10 @@ class MachinePicture:
         (x, y), (wide, high) = self.middle(name), self.size_of(name)
         self.parts.append(f'<rect class="trap" x="{x - wide / 2:.1f}" y="{y - high / 2:.1f}" width="{wide}" '
                           f'height="{high}" rx="15"/>')
-        self.parts.append(text_at(x, y - high / 2 - 6, name, "mid head halo"))
+        if self.layout.spots[name].heading[1] == 0:
+            self.parts.append(text_at(x, y - high / 2 - 6, name, "mid head halo"))
+        else:
+            self.parts.append(text_at(x + wide / 2 + 6, y + 4, name, "head halo"))
         chain, room = self.held.get(name, []), self.rooms[number]
         places = room if self.is_known else len(chain)
         for place in range(places):
