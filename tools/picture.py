@@ -35,6 +35,7 @@ ZIGZAG = 12      # the same in a long chain, which is drawn in zigzag
 LONG = 8         # the most ions that are drawn in a straight chain
 GAP = 58         # between two columns of parts
 LINE_GAP = 44    # between two rows of parts
+BENT_GAP = 150   # twice what is free beside all parts, where segments are bent
 
 
 def escaped(text):
@@ -87,17 +88,18 @@ class MachinePicture:
             wide, high = self.size_of(name)
             self.columns[spot.cell[0]] = max(self.columns.get(spot.cell[0], 0), wide)
             self.lines[spot.cell[1]] = max(self.lines.get(spot.cell[1], 0), high)
-        self.middle_x, self.width = self.middles(self.columns, GAP)
-        self.middle_y, self.height = self.middles(self.lines, LINE_GAP)
+        sides = BENT_GAP if self.layout.bends(spots) else GAP
+        self.middle_x, self.width = self.middles(self.columns, GAP, sides)
+        self.middle_y, self.height = self.middles(self.lines, LINE_GAP, LINE_GAP)
 
     @staticmethod
-    def middles(sizes, gap):
+    def middles(sizes, gap, sides):
         """The middle of each column (or row) of these sizes, and the size of all."""
-        middles, at = {}, gap / 2
+        middles, at = {}, sides / 2
         for number in sorted(sizes):
             middles[number] = at + sizes[number] / 2
             at += sizes[number] + gap
-        return middles, at - gap / 2
+        return middles, at - gap + sides / 2
 
     def middle(self, name):
         """The middle of a part."""
@@ -127,7 +129,7 @@ class MachinePicture:
         ways = self.way_of(ends[0], ends[1]), self.way_of(ends[1], ends[0])
         (x, y), (to_x, to_y) = (self.port(end[0], way) for end, way in zip(ends, ways))
         if self.layout.is_straight(ends):
-            aside = (-24 * nth * (ways[0][1] != 0), -24 * nth * (ways[0][0] != 0))
+            aside = (-40 * nth * (ways[0][1] != 0), -40 * nth * (ways[0][0] != 0))
             reach = 0.4 * (abs(to_x - x) + abs(to_y - y))
         else:
             aside, reach = (0, 0), 46 + 0.1 * (abs(to_x - x) + abs(to_y - y))
@@ -181,8 +183,9 @@ class MachinePicture:
 
     def add_ion(self, at, ion):
         """Draws an ion at a point."""
+        names = "mid small" if ion[0] > 99 else "mid"
         self.ions.append(f'<g><title>{escaped(ion[1])}</title><circle class="ion" cx="{at[0]:.1f}" cy="{at[1]:.1f}" '
-                         f'r="{ION}"/>{text_at(at[0], at[1] + 4, ion[0], "mid")}</g>')
+                         f'r="{ION}"/>{text_at(at[0], at[1] + 4 - (ion[0] > 99), ion[0], names)}</g>')
 
     def add_junction(self, name):
         """Draws a junction."""
