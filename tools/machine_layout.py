@@ -5,6 +5,8 @@ Used by tools/draw; neither proved nor part of the program.
 import collections
 import re
 
+from report import NotAReport
+
 EAST, WEST, SOUTH, NORTH = (1, 0), (-1, 0), (0, 1), (0, -1)
 # How many parts that are joined to none stand in a row.
 ALONE = 6
@@ -37,6 +39,7 @@ def ends_told_by(words):
 def joins_of(report):
     """What the operations of a report show of the ends of each segment: a list of two, one or no ends."""
     joins = {f"S{number}": [] for number in range(report.segments)}
+    names = set(report.places())
     missing = 2 * report.segments
     shown = (b"split", b"merge", b"enter", b"leave")
     known = set()
@@ -46,7 +49,9 @@ def joins_of(report):
             continue
         known.add(tuple(words))
         segment, end = ends_told_by([word.decode("ascii", "replace") for word in words])
-        if end not in joins.setdefault(segment, []):
+        if segment not in names or end[0] not in names or len(set(joins[segment] + [end])) > 2:
+            raise NotAReport(f"there is no such place: {line.decode('ascii', 'replace').strip()}")
+        if end not in joins[segment]:
             joins[segment].append(end)
             missing -= 1
             if missing == 0:
@@ -57,7 +62,8 @@ def joins_of(report):
 def preset(name):
     """The capacities and the joins of a machine that is known by name, or None."""
     found = re.fullmatch(r"@(single|L6|G2x3)(?::([0-9]+))?", name)
-    if not found:
+    capacity = int(found and found.group(2) or 16)
+    if not found or not 2 <= capacity <= 32:
         return None
     ends = []
     if found.group(1) == "L6":
@@ -67,7 +73,7 @@ def preset(name):
             ends += [(f"T{trap}.right", f"J{junction}"), (f"J{junction}", f"T{trap + 1}.left")]
         ends += [("J0", "J2"), ("J1", "J3")]
     traps = 1 if found.group(1) == "single" else 6
-    return [int(found.group(2) or 16)] * traps, {f"S{number}": list(map(end_of, pair)) for number, pair in enumerate(ends)}
+    return [capacity] * traps, {f"S{number}": list(map(end_of, pair)) for number, pair in enumerate(ends)}
 
 
 def end_of(text):
@@ -100,7 +106,8 @@ class Layout:
     """Spots for the traps and junctions of a machine, with about so many in a row.
 
     Traps and junctions stand in cells of a grid, neighbours next to each other where that can be. Of two ways to lay it
-    out the one with fewer bent segments is taken, then the one with fewer rows. A ring, and a line that is too long, is folded into rows.
+    out the one with fewer bent segments is taken, then the one with fewer rows. A ring, and a line that is
+    too long, is folded into rows.
     """
 
     def __init__(self, traps, junctions, joins, longest):
@@ -183,7 +190,8 @@ class Layout:
         return sum(len(ends) == 2 and not self.is_straight(ends) for ends in self.joins.values())
 
     def fold(self):
-        """Folds a ring, which has one bent segment in one row, into two rows, and a long line into as many as needed."""
+        """Folds a ring, which has one bent segment in one row, into two rows, and a long line into as many as it
+        needs."""
         joined = [name for name in self.spots if self.neighbours[name]]
         if len({self.spots[name].cell[1] for name in joined}) != 1 or self.bends(self.spots) > 1:
             return

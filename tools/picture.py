@@ -63,8 +63,8 @@ def trap_size(room, is_long):
 class MachinePicture:
     """A machine: traps with the ions in them, segments and junctions.
 
-    held: the ions that each place holds, each with the number that is drawn and what it says, a trap's from its left end
-    to its right one; rooms: for how many ions each trap is drawn; is_known: whether that is how many it can hold.
+    held: the ions that each place holds, each with the number that is drawn and what it says, a trap's from its left
+    end to its right one; rooms: for how many ions each trap is drawn; is_known: whether that is how many it can hold.
     """
 
     def __init__(self, layout, held, rooms, is_known):
@@ -152,7 +152,8 @@ class MachinePicture:
             return
         way = self.layout.spots[end[0]].side(end[1])
         x, y = self.port(end[0], way)
-        self.parts.append(f'<path class="wire" stroke-dasharray="1 9" d="M{x:.1f} {y:.1f} l{way[0] * 24} {way[1] * 24}"/>')
+        self.parts.append(f'<path class="wire" stroke-dasharray="1 9" d="M{x:.1f} {y:.1f} '
+                          f'l{way[0] * 24} {way[1] * 24}"/>')
         self.parts.append(text_at(x + way[0] * 16, y + way[1] * 16 - 8, name, "mid faint halo"))
 
     def add_trap(self, number):
@@ -316,6 +317,7 @@ def moved_by(parts, x, y, scale=1):
 
 def document(parts, width, height, title):
     """A whole SVG file."""
-    return "\n".join([f'<svg xmlns="http://www.w3.org/2000/svg" width="{width:.0f}" height="{height:.0f}" '
-                      f'viewBox="0 0 {width:.0f} {height:.0f}">', f"<title>{escaped(title)}</title>",
-                      f"<style>{STYLE}</style>", '<rect width="100%" height="100%" fill="#fff"/>'] + parts + ["</svg>", ""])
+    head = [f'<svg xmlns="http://www.w3.org/2000/svg" width="{width:.0f}" height="{height:.0f}" '
+            f'viewBox="0 0 {width:.0f} {height:.0f}" role="img">', f"<title>{escaped(title)}</title>",
+            f"<style>{STYLE}</style>", '<rect width="100%" height="100%" fill="#fff"/>']
+    return "\n".join(head + parts + ["</svg>", ""])

@@ -15,7 +15,8 @@ KINDS = ["split", "merge", "move", "enter", "leave", "rot", "gswap", "gate1", "g
 LINE = re.compile(rb"""(\d+)[ ](\d+)[ ](\d+)[ ]
     ( split[ ]T\d+[ ](?:left|right)[ ]S\d+ | move[ ]S\d+ | enter[ ]S\d+[ ]J\d+ | leave[ ]J\d+[ ]S\d+
     | merge[ ]S\d+[ ]T\d+[ ](?:left|right) | rot[ ]T\d+[ ]\d+ | gswap[ ]T\d+[ ]\d+[ ]\d+
-    | item[ ]\d+[ ][!-~]+[ ]T\d+(?:[ ]q\d+@\d+){1,2}(?:[ ]b\d+)? | fence[ ]\d+(?:[ ]T\d+)+(?:[ ]q\d+)+ )\s*""", re.VERBOSE)
+    | item[ ]\d+[ ][!-~]+[ ]T\d+(?:[ ]q\d+@\d+){1,2}(?:[ ]b\d+)? | fence[ ]\d+(?:[ ]T\d+)+(?:[ ]q\d+)+ )\s*""",
+    re.VERBOSE)
 # The last lines of a report, from the first `end` on, never have more bytes than this.
 TAIL = 1 << 16
 
@@ -128,6 +129,8 @@ class Report:
         numbers = dict(zip(sizes[::2], map(int, sizes[1::2])))
         self.qubits, self.bits = numbers["qubits"], numbers["bits"]
         self.traps, self.segments, self.junctions = numbers["traps"], numbers["segments"], numbers["junctions"]
+        if self.traps > 32 or self.segments > 128 or self.junctions > 64:
+            raise ValueError
         self.starts = [[int(word) for word in self.next_words(["start", f"T{trap}"])] for trap in range(self.traps)]
         self.total = int(self.next_words(["ops"])[0])
         self.first = self.file.tell()
