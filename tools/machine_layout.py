@@ -5,7 +5,7 @@ Used by tools/draw; neither proved nor part of the program.
 import collections
 import re
 
-from report import NotAReport
+from report import NotAReport, Operation
 
 EAST, WEST, SOUTH, NORTH = (1, 0), (-1, 0), (0, 1), (0, -1)
 # How many parts that are joined to none stand in a row.
@@ -48,7 +48,7 @@ def joins_of(report):
         if not words or words[0] not in shown or tuple(words) in known:
             continue
         known.add(tuple(words))
-        segment, end = ends_told_by([word.decode("ascii", "replace") for word in words])
+        segment, end = ends_told_by(Operation(line).words)
         if segment not in names or end[0] not in names or len(set(joins[segment] + [end])) > 2:
             raise NotAReport(f"there is no such place: {line.decode('ascii', 'replace').strip()}")
         if end not in joins[segment]:

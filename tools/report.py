@@ -17,8 +17,9 @@ LINE = re.compile(rb"""(\d+)[ ](\d+)[ ](\d+)[ ]
     | merge[ ]S\d+[ ]T\d+[ ](?:left|right) | rot[ ]T\d+[ ]\d+ | gswap[ ]T\d+[ ]\d+[ ]\d+
     | item[ ]\d+[ ][!-~]+[ ]T\d+(?:[ ]q\d+@\d+){1,2}(?:[ ]b\d+)? | fence[ ]\d+(?:[ ]T\d+)+(?:[ ]q\d+)+ )\s*""",
     re.VERBOSE)
-# The last lines of a report, from the first `end` on, never have more bytes than this.
+# The last lines of a report, from the first `end` on, never have more bytes than this, nor has any other line.
 TAIL = 1 << 16
+HEAD = b"QCCD report 1\n"
 
 
 class CannotRead(Exception):
@@ -117,7 +118,7 @@ class Report:
 
     def next_words(self, first):
         """The words of the next line, which begins with these."""
-        words = self.file.readline().decode("ascii", "replace").split()
+        words = self.file.readline(TAIL).decode("ascii", "replace").split()
         if words[:len(first)] != first:
             raise NotAReport(f"not a report: no line `{' '.join(first)}`")
         return words[len(first):]
@@ -155,7 +156,7 @@ class Report:
         """The lines of the operations, one after another, from the first."""
         self.file.seek(self.first)
         for _ in range(self.total):
-            yield self.file.readline()
+            yield self.file.readline(TAIL)
 
     def operations(self):
         """The operations, by start and then by number."""
@@ -180,12 +181,18 @@ class Report:
         return [letter + str(number) for letter, size in sizes for number in range(size)]
 
 
+def held(pipe):
+    """What comes out of a pipe; only the beginning if that is no report's, since such a text may never end."""
+    text = pipe.read(len(HEAD))
+    return text + pipe.read() if text == HEAD else text
+
+
 def open_report(name):
     """The report in a file of this name; `-` is standard input."""
     try:
         file = sys.stdin.buffer if name == "-" else open(name, "rb")
         if not file.seekable():
-            file = io.BytesIO(file.read())
+            file = io.BytesIO(held(file))
     except OSError:
         raise CannotRead(name) from None
     return Report(file)
@@ -225,6 +232,11 @@ def window_of(options, report):
     return first, last
 
 
+def write_no_more():
+    """What is still to be written to standard output goes nowhere, as where nobody reads it."""
+    os.dup2(os.open(os.devnull, os.O_WRONLY), 1)
+
+
 def run_tool(usage, main):
     """Runs a tool as a command: `main` gets the words. Ends with its status; 2 for words without a reading, 3 for a
     file that can't be read, 4 for one that is no report."""
@@ -246,7 +258,11 @@ def run_tool(usage, main):
         print(f"{name}: {fault}", file=sys.stderr)
         status = 4
     except BrokenPipeError:
-        os.dup2(os.open(os.devnull, os.O_WRONLY), 1)
+        write_no_more()
+    except OSError as fault:
+        print(f"{name}: cannot write: {fault.strerror}", file=sys.stderr)
+        write_no_more()
+        status = 1
     except KeyboardInterrupt:
         status = 130
     sys.exit(status)
