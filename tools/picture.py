@@ -69,7 +69,7 @@ class MachinePicture:
 
     def __init__(self, layout, held, rooms, is_known):
         self.layout, self.held, self.rooms, self.is_known = layout, held, rooms, is_known
-        self.parts, self.ions = [], []
+        self.parts, self.ions, self.heights = [], [], []
         self.are_long = max(rooms) > LONG
         self.lay_out()
 
@@ -138,6 +138,9 @@ class MachinePicture:
         curve = " ".join(f"{bend[0]:.1f} {bend[1]:.1f}" for bend in bends + [(to_x, to_y)])
         self.parts.append(f'<path class="wire" d="M{x:.1f} {y:.1f} C{curve}"/>')
         middle = [(a + 3 * b + 3 * c + d) / 8 for a, b, c, d in zip((x, y), bends[0], bends[1], (to_x, to_y))]
+        for t in (0.25, 0.5, 0.75):
+            sides = (1 - t) ** 3 * y + t ** 3 * to_y
+            self.heights.append(sides + 3 * t * (1 - t) * ((1 - t) * bends[0][1] + t * bends[1][1]))
         for ion in self.held.get(name, []):
             self.add_ion(middle, ion)
         room = ION + 3 if self.held.get(name) else 6
@@ -211,7 +214,14 @@ class MachinePicture:
                 self.add_trap(int(name[1:]))
             else:
                 self.add_junction(name)
-        return self.parts + self.ions
+        return self.with_room_for_bends(self.parts + self.ions)
+
+    def with_room_for_bends(self, parts):
+        """The lines of SVG, moved down if segments are bent above all parts; the height grows by what they need."""
+        up = max([0] + [10 - height for height in self.heights])
+        down = max([0] + [height + 16 - self.height for height in self.heights])
+        self.height += up + down
+        return moved_by(parts, 0, up) if up > 0 else parts
 
 
 def step_of_axis(time, marks):
