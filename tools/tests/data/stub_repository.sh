@@ -9,7 +9,9 @@ trap 'rm -rf "$folder"' EXIT
 repository="$folder/a repository"
 asked=$folder/asked # a line for each call of the stand-in: the crate, where (copy or checkout), and the words
 failed=0
-export ASKED=$asked
+# A place of the tests' own for the copies, so that one can see what is left.
+export ASKED=$asked TMPDIR=$folder/temporary
+mkdir "$TMPDIR"
 : >"$asked"
 
 # The program stands on left and right, and these on low; nothing of the program stands on unused.
@@ -35,7 +37,7 @@ make_repository() {
 #!/usr/bin/env bash
 crate=$(basename "$PWD")
 case $PWD in
-    */out/build/*) place=copy ;;
+    */qccd-build.*) place=copy ;;
     *) place=checkout ;;
 esac
 echo "$crate $place $1" >>"$ASKED"
@@ -55,7 +57,7 @@ END
 
 # Takes away what a build left.
 forget() {
-    rm -rf "$repository"/crates/*/out "$repository/out"
+    rm -rf "$repository"/crates/*/out
     : >"$asked"
 }
 
