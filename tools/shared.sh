@@ -43,25 +43,29 @@ are_command() {
     esac
 }
 
-# The crates that the program stands on and the program itself, one on a line with those of this repository that it
-# stands on. crates.txt lists the lowest first.
+# The crates that the program stands on and the program itself, the lowest first, one on a line with those of this
+# repository that it stands on. The lines of crates.txt come in any order.
 print_crates() {
     awk '
-        /^[a-z]/ {
-            words = split($0, word, /[: ]+/)
-            order[++count] = word[1]
-            below[word[1]] = ""
-            for (w = 2; w <= words; w++) if (word[w] in below) below[word[1]] = below[word[1]] " " word[w]
-        }
-        END {
-            needed["qccd"] = 1
-            for (n = count; n > 0; n--)
-                if (order[n] in needed) {
-                    words = split(below[order[n]], word, " ")
-                    for (w = 1; w <= words; w++) needed[word[w]] = 1
+        function visit(name, words, word, w, line) {
+            if (name in seen) return
+            seen[name] = 1
+            line = name
+            words = split(below[name], word, " ")
+            for (w = 1; w <= words; w++)
+                if (word[w] in below) {
+                    visit(word[w])
+                    line = line " " word[w]
                 }
-            for (n = 1; n <= count; n++) if (order[n] in needed) print order[n] below[order[n]]
-        }' "$top/crates.txt"
+            print line
+        }
+        { sub(/#.*/, "") }
+        /^[a-z]/ {
+            split($0, part, ":")
+            split(part[1], word, " ")
+            below[word[1]] = part[2]
+        }
+        END { visit("qccd") }' "$top/crates.txt"
 }
 
 # Whether the program is there and no source of its own crates is newer.

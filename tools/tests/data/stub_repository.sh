@@ -21,7 +21,7 @@ make_repository() {
     cp qccd qccd-try "$repository/"
     cp tools/shared.sh tools/build "$repository/tools/"
     cp examples/bell.qasm "$repository/examples/"
-    printf '%s\n' '# Lowest first.' 'low: itoa' 'left: low' 'right: itoa low' 'unused: low' 'qccd: left right' >"$repository/crates.txt"
+    printf '%s\n' '# In no order.' 'qccd: left right' 'low: itoa' 'left: low' 'unused: low' 'right: itoa low # the wider' >"$repository/crates.txt"
     echo 'Handles allowed: none.' >"$repository/HANDLES"
     for crate in low left right unused qccd; do
         mkdir -p "$repository/crates/$crate/src" "$repository/crates/$crate/specs" "$repository/crates/$crate/proofs/f"
