@@ -65,7 +65,7 @@ valid_in told (OfPreset which capacity) m within is = subst IsValid (sym is) (va
 valid_in told (OfFile name) m within (text, (held, few), is) = is.valid
 
 -- the text of a circuit's file
-read_in : (told : Option Holding) (name : List ℕ) (c : CircuitData) → CircuitIn told name (Gives c) → (text : List ℕ) × IsCircuitOf text c
+pub read_in : (told : Option Holding) (name : List ℕ) (c : CircuitData) → CircuitIn told name (Gives c) → (text : List ℕ) × IsCircuitOf text c
 unfolding ◌>>=◌
 read_in told name c (text, held, reads) = (text, reads)
 

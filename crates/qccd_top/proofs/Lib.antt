@@ -7,3 +7,6 @@ pub mod Loaded
 pub mod Headline
 pub mod Texts
 pub mod Again
+pub mod Promising
+pub mod Every
+pub mod Stopping

@@ -4,3 +4,4 @@ pub mod Means
 pub mod Call
 pub mod Done
 pub mod Headline
+pub mod Promises

@@ -1,15 +1,16 @@
 -- What each command writes, or for what it is refused.
-use Rattle.std.specs.Prelude.{ℕ, List, Option, codes}
+use Rattle.std.specs.Prelude.{ℕ, List, Option, Some, None, IfSome, codes}
 use Rattle.qccd_base.specs.declared.names.Mode.{Mode}
 use Rattle.qccd_base.specs.declared.names.Mode.TheVariants.{IonSwap}
 use Rattle.qccd_io.specs.Shelf.{Holding}
+use Rattle.qccd_circuit.specs.Circuit.{CircuitData}
 use Rattle.qccd_program.specs.Program.{ProgramData}
 use Rattle.rehearsal.specs.Generated.{generated}
 use Rattle.tracer.specs.Report.{report_text}
 use Rattle.tracer.specs.Summary.{summary_text}
 use Rattle.transport_asm.specs.ProgramText.{program_text}
 use Rattle.qccd_words.specs.Words.{AskedMachine, Asked, AskedRun, AskedCompile, AskedExec, AskedCheck, AskedRehearse}
-use Rattle.qccd_top.specs.Stage.{Stage, ◌>>=◌, Just}
+use Rattle.qccd_top.specs.Stage.{Stage, Gives, ◌>>=◌, Just}
 use Rattle.qccd_top.specs.Stages.{WordsOf, MachineIn, CircuitIn, Compiled, ProgramIn, SameAs}
 
 -- the program of the circuit in the file of this name, for the machine that the word names
@@ -61,3 +62,41 @@ TextOf told (AskedRehearse number qubits items machine workers) = do
 -- what is written for these words
 abbrev pub TextFor : Option Holding → List (List ℕ) → Stage (List ℕ)
 TextFor told words = WordsOf words >>= TextOf told
+
+-- ---- what is named in what is asked for
+
+-- the word for the machine
+abbrev pub word_of : Asked → AskedMachine
+word_of (AskedRun machine circuit workers mode) = machine
+word_of (AskedCompile machine circuit mode) = machine
+word_of (AskedExec machine program workers) = machine
+word_of (AskedCheck machine circuit program) = machine
+word_of (AskedRehearse number qubits items machine workers) = machine
+
+-- the file of the circuit, where there is one
+abbrev pub circuit_file : Asked → Option (List ℕ)
+circuit_file (AskedRun machine circuit workers mode) = Some circuit
+circuit_file (AskedCompile machine circuit mode) = Some circuit
+circuit_file (AskedExec machine program workers) = None
+circuit_file (AskedCheck machine circuit program) = Some circuit
+circuit_file (AskedRehearse number qubits items machine workers) = None
+
+-- the file of the program, where there is one
+abbrev pub program_file : Asked → Option (List ℕ)
+program_file (AskedRun machine circuit workers mode) = None
+program_file (AskedCompile machine circuit mode) = None
+program_file (AskedExec machine program workers) = Some program
+program_file (AskedCheck machine circuit program) = Some program
+program_file (AskedRehearse number qubits items machine workers) = None
+
+-- in which mode the circuit of the file is compiled, where it is
+abbrev pub compiling_mode : Asked → Option Mode
+compiling_mode (AskedRun machine circuit workers mode) = Some mode
+compiling_mode (AskedCompile machine circuit mode) = Some mode
+compiling_mode (AskedExec machine program workers) = None
+compiling_mode (AskedCheck machine circuit program) = None
+compiling_mode (AskedRehearse number qubits items machine workers) = None
+
+-- where a circuit's file is named, it holds a circuit
+abbrev pub HoldsCircuit : Holding → Asked → Type 0
+HoldsCircuit held asked = IfSome (circuit_file asked) (λ name. (c : CircuitData) × CircuitIn (Some held) name (Gives c))

@@ -1,13 +1,16 @@
 //! What the program does around the top call: it takes its words from the system, and gives the
 //! status to it.
 
-ghost use Rattle.std.specs.Prelude.{◌≡◌, ◌↔◌, None, IfOk, IfErr, map, string_bytes};
+ghost use Rattle.std.specs.Prelude.{◌≡◌, IfOk, IfErr};
 ghost use Rattle.std.specs.Process.{exit_status};
-ghost use Rattle.qccd_words.specs.Words.{request_of};
+ghost use Rattle.qccd_io.specs.Shelf.{NoneIsOut};
+ghost use Rattle.qccd_io.specs.Sink.{Further};
+ghost use Rattle.qccd_top.specs.Call.{call_of, output};
+ghost use Rattle.qccd_top.specs.Promises.{Promises};
 
 use crate::top::run;
 use qccd_base::NoMemory;
-use qccd_io::{FileShelf, NoPost, StdSink};
+use qccd_io::{FileShelf, NoPost, Shelf, Sink, StdSink};
 use qccd_messages::{Refusal, tell};
 use std::env;
 use std::io::{ErrorKind, Write};
@@ -22,36 +25,34 @@ pub fn start<R: Threads + Sync + Files + Env + AllocGlobal, O: Write + Drop, E: 
     out: O,
     err: E,
 ) -> ExitCode {
-    finish(rt, words_of(rt), out, err)
-}
-
-/// Does what the words ask for. Without memory for the words it says so, and ends with 12.
-fn finish<R: Threads + Sync + Files + AllocGlobal, O: Write + Drop, E: Write + Drop>(
-    rt: &R,
-    words: Result<Vec<String>, NoMemory>,
-    out: O,
-    err: E,
-) -> ExitCode
-    ensures words { IfOk words (λ w. (exit_status result ≡ 2) ↔ (request_of (map string_bytes w.items) ≡ None)) }
-    ensures memory { IfErr words (λ e. exit_status result ≡ 12) }
-{
-    let mut err = StdSink::of(err);
-    let Ok(words) = words else {
-        let refusal = Refusal::NoMemory;
-        let _told = tell(&mut err, &refusal);
-        return ExitCode::from(refusal.status());
-    };
     let mut shelf = FileShelf::of(rt);
     let mut out = StdSink::of(out);
-    let status = run(
-        rt,
-        rt.alloc(),
-        words.as_slice(),
-        &mut shelf,
-        &mut out,
-        &mut err,
-        &NoPost,
-    );
+    let mut err = StdSink::of(err);
+    finish(rt, words_of(rt), &mut shelf, &mut out, &mut err)
+}
+
+/// Does what the words ask for, over any shelf and sinks, and gives what the program ends with: all that
+/// `run` promises of its status holds of the system's status. Without memory for the words it says so, and
+/// ends with 12.
+fn finish<R: Threads + Sync + AllocGlobal, F: Shelf, O: Sink, E: Sink>(
+    rt: &R,
+    words: Result<Vec<String>, NoMemory>,
+    shelf: &mut F,
+    out: &mut O,
+    err: &mut E,
+) -> ExitCode
+    requires { NoneIsOut (F.told shelf.old) }
+    ensures promises { IfOk words (λ w. Promises (call_of F.told F.faults w.items shelf.old shelf.new (output O.taken O.faults out.old out.new)) (output E.taken E.faults err.old err.new) (exit_status result)) }
+    ensures same { F.told shelf.new ≡ F.told shelf.old }
+    ensures err_further { Further (E.behind err.old) (E.behind err.new) }
+    ensures memory { IfErr words (λ e. (exit_status result ≡ 12) × (O.taken out.new ≡ O.taken out.old)) }
+{
+    let Ok(words) = words else {
+        let refusal = Refusal::NoMemory;
+        let _told = tell(err, &refusal);
+        return ExitCode::from(refusal.status());
+    };
+    let status = run(rt, rt.alloc(), words.as_slice(), shelf, out, err, &NoPost);
     ExitCode::from(status.0)
 }
 

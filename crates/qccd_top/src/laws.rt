@@ -3,6 +3,7 @@
 
 ghost use Rattle.std.specs.Prelude.{◌≡◌, ◌≢◌, ◌<◌, ◌≤◌, ◌*◌, ℕ, List, All, Some, None, length};
 ghost use Rattle.qccd_base.specs.declared.names.Mode.{Mode};
+ghost use Rattle.qccd_base.specs.declared.names.Mode.TheVariants.{IonSwap};
 ghost use Rattle.qccd_io.specs.Shelf.{Holding};
 ghost use Rattle.qccd_circuit.specs.Circuit.{CircuitData};
 ghost use Rattle.qccd_machine.specs.declared.place.Preset.{Preset};
@@ -24,11 +25,13 @@ ghost use Rattle.loader.specs.Refusal.{load_refusal, on_machine};
 ghost use Rattle.meaning_check.specs.Verdict.{IsVerdict};
 ghost use Rattle.meaning_check.specs.declared.verdict.Verdict.{Verdict};
 ghost use Rattle.meaning_check.specs.declared.verdict.Verdict.TheVariants.{Same};
-ghost use Rattle.qccd_words.specs.Words.{AskedMachine, OfPreset, OfFile, AskedRun, AskedCompile, AskedExec, AskedCheck, AskedRehearse, HasCapacity, request_of};
+ghost use Rattle.qccd_words.specs.Words.{Asked, AskedMachine, OfPreset, OfFile, AskedRun, AskedCompile, AskedExec, AskedCheck, AskedRehearse, HasCapacity, request_of};
+ghost use Rattle.rehearsal.specs.Generated.{generated};
+ghost use Rattle.qccd_messages.specs.Cause.{Cause, Read, TooLarge, status_of};
 ghost use Rattle.qccd_top.specs.declared.limits.TheConstants.{CIRCUIT_LIMIT, MACHINE_LIMIT, PROGRAM_LIMIT};
-ghost use Rattle.qccd_top.specs.Stage.{Gives};
-ghost use Rattle.qccd_top.specs.Stages.{MachineIn, CircuitIn, ProgramIn};
-ghost use Rattle.qccd_top.specs.Means.{TextOf};
+ghost use Rattle.qccd_top.specs.Stage.{Gives, Refuses};
+ghost use Rattle.qccd_top.specs.Stages.{FileIn, MachineIn, CircuitIn, Compiled, ProgramIn};
+ghost use Rattle.qccd_top.specs.Means.{TextOf, TextFor, HoldsCircuit, word_of, circuit_file, program_file, compiling_mode};
 ghost use Rattle.qccd_top.specs.Done.{IsDue};
 
 /// One status at most is due.
@@ -37,9 +40,76 @@ pub fn one_due()
         → IsDue words held first → IsDue words held second → first ≡ second }
 {}
 
+/// How many bytes a file has at most: of a machine, of a circuit, of a program.
+pub fn limits()
+    ensures machine { MACHINE_LIMIT ≡ 1048576 }
+    ensures circuit { CIRCUIT_LIMIT ≡ 16777216 }
+    ensures program { PROGRAM_LIMIT ≡ 268435456 }
+{}
+
+/// Some status is due, whatever the words and the files.
+pub fn some_due()
+    ensures { (words : List (List ℕ)) (held : Holding) → (status : ℕ) × IsDue words held status }
+{}
+
+/// Words and files have one text at most.
+pub fn one_text()
+    ensures { (words : List (List ℕ)) (held : Holding) (first second : List ℕ)
+        → TextFor (Some held) words (Gives first) → TextFor (Some held) words (Gives second) → first ≡ second }
+{}
+
 /// Words that have no reading: 2, whatever is held.
 pub fn no_reading()
     ensures { (words : List (List ℕ)) (held : Holding) → request_of words ≡ None → IsDue words held 2 }
+{}
+
+/// Whatever the command: no machine, and the status is that of the cause for which there is none.
+pub fn refused_for_the_machine()
+    ensures { (words : List (List ℕ)) (held : Holding) (asked : Asked) (cause : Cause)
+        → request_of words ≡ Some asked → MachineIn (Some held) (word_of asked) (Refuses cause)
+        → IsDue words held (status_of cause) }
+{}
+
+/// Whatever the command: a machine but no circuit in the file that is named.
+pub fn refused_for_the_circuit()
+    ensures { (words : List (List ℕ)) (held : Holding) (asked : Asked) (m : MachineData) (circuit : List ℕ) (cause : Cause)
+        → request_of words ≡ Some asked → MachineIn (Some held) (word_of asked) (Gives m)
+        → circuit_file asked ≡ Some circuit → CircuitIn (Some held) circuit (Refuses cause)
+        → IsDue words held (status_of cause) }
+{}
+
+/// Whatever the command: a machine and, where it is named, a circuit, but no program in the file that is named.
+pub fn refused_for_the_program()
+    ensures { (words : List (List ℕ)) (held : Holding) (asked : Asked) (m : MachineData) (program : List ℕ) (cause : Cause)
+        → request_of words ≡ Some asked → MachineIn (Some held) (word_of asked) (Gives m) → HoldsCircuit held asked
+        → program_file asked ≡ Some program → ProgramIn (Some held) m program (Refuses cause)
+        → IsDue words held (status_of cause) }
+{}
+
+/// A machine and a circuit, but no program of it: of the circuit of a file, and of one that is generated.
+pub fn refused_for_the_compiler()
+    ensures read { (words : List (List ℕ)) (held : Holding) (asked : Asked) (m : MachineData) (circuit : List ℕ) (c : CircuitData) (mode : Mode) (cause : Cause)
+        → request_of words ≡ Some asked → MachineIn (Some held) (word_of asked) (Gives m)
+        → circuit_file asked ≡ Some circuit → compiling_mode asked ≡ Some mode → CircuitIn (Some held) circuit (Gives c)
+        → Compiled c m mode (Refuses cause)
+        → IsDue words held (status_of cause) }
+    ensures made { (words : List (List ℕ)) (held : Holding) (number qubits items : ℕ) (machine : AskedMachine) (workers : ℕ) (m : MachineData) (cause : Cause)
+        → request_of words ≡ Some (AskedRehearse number qubits items machine workers) → MachineIn (Some held) machine (Gives m)
+        → Compiled (generated number qubits items) m IonSwap (Refuses cause)
+        → IsDue words held (status_of cause) }
+{}
+
+/// A file is refused as it is not held, or as it has more bytes than the limit.
+pub fn refused_files()
+    ensures missing { (held : Holding) (name : List ℕ) (limit : ℕ) → held.file name ≡ None → FileIn (Some held) name limit (Refuses (Read name)) }
+    ensures large { (held : Holding) (name text : List ℕ) (limit : ℕ) → held.file name ≡ Some text → limit < length text
+        → FileIn (Some held) name limit (Refuses (TooLarge name limit)) }
+    ensures machine { (held : Holding) (name : List ℕ) (cause : Cause) → FileIn (Some held) name MACHINE_LIMIT (Refuses cause)
+        → MachineIn (Some held) (OfFile name) (Refuses cause) }
+    ensures circuit { (held : Holding) (name : List ℕ) (cause : Cause) → FileIn (Some held) name CIRCUIT_LIMIT (Refuses cause)
+        → CircuitIn (Some held) name (Refuses cause) }
+    ensures program { (held : Holding) (m : MachineData) (name : List ℕ) (cause : Cause) → FileIn (Some held) name PROGRAM_LIMIT (Refuses cause)
+        → ProgramIn (Some held) m name (Refuses cause) }
 {}
 
 /// The machine's file is not held: 3, whatever the circuit's file.

@@ -1,43 +1,26 @@
-use Rattle.std.proofs.Common.{◌∙◌, sym, ap}
-use Rattle.qccd_messages.specs.Cause.{status_of}
+use Rattle.std.proofs.Common.{refl, sym, subst, arith}
+use Rattle.qccd_messages.specs.Cause.{cause_of}
+use Rattle.qccd_messages.specs.Message.{message_of}
 use Rattle.qccd_top.specs.Call.{call_of, output}
-use Rattle.qccd_top.proofs.Dues.{done_exact, refused_exact}
-use Rattle.qccd_top.proofs.Headline.{headline, cut, program_written, executed, same_told, rehearsed}
-use Rattle.qccd_top.proofs.Judged.{words_cause}
+use Rattle.qccd_top.specs.Promises.{Promises}
+use Rattle.qccd_top.proofs.Promising.{promised_done, promised_refused, told}
 use Rattle.qccd_top.proofs.top.run.Goals as goal
 
-pub returns-in-Err-clause-words : goal.returns-in-Err-clause-words
-returns-in-Err-clause-words g c =
-    let call = call_of g.F.Shelf.told g.F.Shelf.faults c.args.words.now c.args.shelf.now c.answer.new.shelf (output g.O.Sink.taken g.O.Sink.faults c.args.out.now c.answer.new.out) in (
-      λ two. words_cause call _ c.in-Err.ensures.does.did (sym c.status-status.ensures ∙ two),
-      λ none. c.status-status.ensures ∙ ap status_of (c.in-Err.ensures.words none),
-    )
+pub returns-in-Ok-clause-promises : goal.returns-in-Ok-clause-promises
+returns-in-Ok-clause-promises g c =
+    let does = c.in-Ok.ensures.does in
+    promised_done
+    (call_of g.F.Shelf.told g.F.Shelf.faults c.args.words.now c.args.shelf.now c.answer.new.shelf (output g.O.Sink.taken g.O.Sink.faults c.args.out.now c.answer.new.out))
+    (output g.E.Sink.taken g.E.Sink.faults c.args.err.now c.args.err.now) does.did refl c.in-Ok.ensures.words
+    (record { of_shelf = does.count; of_out = does.out_count; of_err = omega arith })
 
-pub returns-in-Ok-clause-headline : goal.returns-in-Ok-clause-headline
-returns-in-Ok-clause-headline g c = λ asks zero. headline _ asks c.in-Ok.ensures.does.did
-
-pub returns-in-Ok-clause-compiled : goal.returns-in-Ok-clause-compiled
-returns-in-Ok-clause-compiled g c = λ asks zero. program_written _ asks c.in-Ok.ensures.does.did
-
-pub returns-in-Ok-clause-executed : goal.returns-in-Ok-clause-executed
-returns-in-Ok-clause-executed g c = λ asks zero. executed _ asks c.in-Ok.ensures.does.did
-
-pub returns-in-Ok-clause-checked : goal.returns-in-Ok-clause-checked
-returns-in-Ok-clause-checked g c = λ asks zero. same_told _ asks c.in-Ok.ensures.does.did
-
-pub returns-in-Ok-clause-rehearsed : goal.returns-in-Ok-clause-rehearsed
-returns-in-Ok-clause-rehearsed g c = λ asks zero. rehearsed _ asks c.in-Ok.ensures.does.did
-
-pub returns-in-Ok-clause-exact : goal.returns-in-Ok-clause-exact
-returns-in-Ok-clause-exact g c = λ held due tells is.
-    done_exact (call_of g.F.Shelf.told g.F.Shelf.faults c.args.words.now c.args.shelf.now c.answer.new.shelf (output g.O.Sink.taken g.O.Sink.faults c.args.out.now c.answer.new.out))
-    held due tells c.in-Ok.ensures.does.did is
-
-pub returns-in-Err-clause-exact : goal.returns-in-Err-clause-exact
-returns-in-Err-clause-exact g c = λ held due tells is.
-    rw c.status-status.ensures
-    (refused_exact (call_of g.F.Shelf.told g.F.Shelf.faults c.args.words.now c.args.shelf.now c.answer.new.shelf (output g.O.Sink.taken g.O.Sink.faults c.args.out.now c.answer.new.out))
-    held _ due tells c.in-Err.ensures.does.did is)
-
-pub returns-in-Err-clause-cut : goal.returns-in-Err-clause-cut
-returns-in-Err-clause-cut g c = λ asks four. cut _ asks _ c.in-Err.ensures.does.did (sym c.status-status.ensures ∙ four)
+pub returns-in-Err-clause-promises : goal.returns-in-Err-clause-promises
+returns-in-Err-clause-promises g c =
+    let call = call_of g.F.Shelf.told g.F.Shelf.faults c.args.words.now c.args.shelf.now c.answer.new.shelf (output g.O.Sink.taken g.O.Sink.faults c.args.out.now c.answer.new.out) in
+    let err = output g.E.Sink.taken g.E.Sink.faults c.args.err.now c.tell-told.new.err in
+    let does = c.in-Err.ensures.does in
+    let cause = cause_of c.in-Err.refusal in
+    subst (Promises call err) (sym c.status-status.ensures)
+    (promised_refused call err cause does.did c.in-Err.ensures.words
+    (told g.E.Sink.taken g.E.Sink.faults g.E.Sink.behind c.args.err.now c.tell-told.new.err c.tell-told.result (message_of cause) c.tell-told.ensures)
+    (record { of_shelf = does.count; of_out = does.out_count; of_err = c.tell-told.ensures.count }))
