@@ -1,6 +1,6 @@
 //! Doing a command over files in memory, and telling what came of it.
 
-ghost use Rattle.std.specs.Prelude.{◌<◌, Some, IfOk};
+ghost use Rattle.std.specs.Prelude.{◌<◌, ◌≤◌, length, Some, IfOk};
 ghost use Rattle.qccd_io.specs.Shelf.{NoneIsOut};
 ghost use Rattle.qccd_io.specs.Stock.{holding_of};
 
@@ -13,7 +13,7 @@ use std::io::Write;
 use std::thread::Threads;
 
 /// How many bytes a command may write, of text and of messages.
-const ROOM: usize = 1 << 20;
+const ROOM: usize = 1 << 24;
 
 /// How many of them a write takes where something fails.
 const PIECE: usize = 16;
@@ -111,6 +111,26 @@ fn show_words<W: Write>(shown: &mut W, line: &str, fault: Option<Fault>) -> bool
     told.is_ok()
 }
 
+/// Where the last line of a text begins.
+fn last_line(text: &[u8]) -> usize
+    ensures { result ≤ length text.now }
+{
+    let mut at = text.len().saturating_sub(1);
+    while at > 0 && text[at - 1] != b'\n' {
+        at -= 1;
+    }
+    at
+}
+
+/// Prints a text or, in brief, how many bytes it has and its last line.
+fn show_text<W: Write>(shown: &mut W, text: &[u8], brief: bool) -> bool {
+    if !brief {
+        return shown.write_all(text).is_ok();
+    }
+    let count = text.len();
+    writeln!(shown, "{count} bytes").is_ok() && shown.write_all(&text[last_line(text)..]).is_ok()
+}
+
 /// Does a command while this fails, and prints the command and what came of it. What it wrote is put in the place
 /// of what the one before wrote.
 fn show_once<R: AllocGlobal + Threads + Sync, W: Write>(
@@ -131,7 +151,7 @@ fn show_once<R: AllocGlobal + Threads + Sync, W: Write>(
     *wrote = Vec::from_slice(alloc, out.bytes())?;
     Ok(
         show_words(shown, row.words.as_str(), fault)
-            && shown.write_all(out.bytes()).is_ok()
+            && show_text(shown, out.bytes(), row.brief)
             && shown.write_all(err.bytes()).is_ok()
             && writeln!(shown, "status {}", status.0).is_ok()
             && (same || writeln!(shown, "the circuit's file changed").is_ok()),

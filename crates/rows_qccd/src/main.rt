@@ -6,6 +6,7 @@
 //! - `a*N|TEXT|TEXT`: these lines, N times
 //! - `a.|TEXT`: a further text that no line feed ends
 //! - `p<`: the file `p` is what the command before wrote
+//! - `brief`: of what the command writes, how many bytes it has and its last line stand for the whole
 //! - `! shelf N`, `! text N`, `! messages N`: the command is done N times, and each time another one of the first
 //!   N calls of the shelf, or writes of the text or of messages, fails; a write takes 16 bytes at most
 #![tactic(auto)]

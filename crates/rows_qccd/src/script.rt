@@ -27,6 +27,8 @@ pub struct Row {
     pub files: Files,
     /// Whether the program's file is what the command before wrote.
     pub chained: bool,
+    /// Whether the length and the last line of what it writes stand for the whole.
+    pub brief: bool,
     /// The command is done once with each of these, and once with none where there is none.
     pub faults: Vec<Fault>,
 }
@@ -96,6 +98,10 @@ fn take(alloc: Global, row: &mut Row, line: &str) -> Result<(), NoMemory> {
         row.chained = true;
         return Ok(());
     }
+    if line == "brief" {
+        row.brief = true;
+        return Ok(());
+    }
     if let Some(rest) = line.strip_prefix("! ") {
         return take_faults(&mut row.faults, rest);
     }
@@ -121,6 +127,7 @@ fn begun(alloc: Global, words: &str) -> Result<Row, NoMemory> {
             program: None,
         },
         chained: false,
+        brief: false,
         faults: Vec::new(alloc),
     })
 }
