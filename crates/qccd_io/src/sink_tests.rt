@@ -159,3 +159,21 @@ fn passes_on_long_texts(rt: HostRuntime) -> Result<(), Fail> {
     assert_eq!(rt; room, text);
     Ok(())
 }
+
+#[test]
+fn hands_on_to_a_stream(rt: HostRuntime) -> Result<(), Fail> {
+    // 200,004 bytes in small pieces: three full buffers, and the rest at the end.
+    let mut want = Vec::new(rt.alloc());
+    for _ in 0..28_572 {
+        want.extend_from_slice(b"abcdefg")?;
+    }
+    let mut room = vec![in rt.alloc(); 0; 200_004]?;
+    let mut buffer = Buffer::of(rt.alloc())?;
+    let mut sink = StdSink::of(room.as_mut_slice());
+    let mut buffered = Buffered::of(&mut buffer, &mut sink);
+    assert_eq!(rt; send_often(&mut buffered, b"abcdefg", 28_572), Ok(()));
+    assert_eq!(rt; buffered.finish(), Ok(()));
+    drop(sink);
+    assert_eq!(rt; room, want);
+    Ok(())
+}

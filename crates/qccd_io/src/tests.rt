@@ -1,10 +1,10 @@
 //! Fetching files from memory and from the system.
 
-ghost use Rattle.std.specs.Prelude.{Some, IfOk};
+ghost use Rattle.std.specs.Prelude.{None, Some, IfOk};
 ghost use Rattle.qccd_io.specs.Stock.{holding_of};
 ghost use Rattle.qccd_io.specs.Shelf.{NoneIsOut};
 
-use crate::{FetchFault, FileShelf, MemShelf, fetch_all};
+use crate::{Failed, FetchFault, FileShelf, MemShelf, Shelf, Source, fetch_all};
 use std::alloc::{AllocError, Global};
 use std::fs;
 use std::test::Fail;
@@ -99,7 +99,7 @@ fn fetches_a_file_of_the_system(rt: HostRuntime) -> Result<(), Fail> {
 #[test]
 fn fetches_long_files_of_the_system(rt: HostRuntime) -> Result<(), Fail> {
     let path = "long_files_of_the_system";
-    for size in [0, 65_536, 150_001] {
+    for size in [0, 65_536, 150_001, 1_310_721] {
         let mut bytes = vec![in rt.alloc(); b'a'; size]?;
         for (place, byte) in bytes.iter_mut().enumerate() {
             *byte = (place % 251) as u8;
@@ -110,5 +110,58 @@ fn fetches_long_files_of_the_system(rt: HostRuntime) -> Result<(), Fail> {
         assert!(rt; is_same(&fetched, Ok(bytes.as_slice())), "{size}");
     }
     fs::remove_file(&rt, path)?;
+    Ok(())
+}
+
+/// A source without an end, which counts the bytes that are read from it.
+#[derive(Drop)]
+struct Endless {
+    read: usize,
+}
+
+impl Source for Endless {
+    ghost faults = { λ _. 0 };
+
+    ghost told = { λ _. None };
+
+    fn read(&mut self, buf: &mut [u8]) -> Result<usize, Failed> {
+        self.read = self.read.saturating_add(buf.len());
+        Ok(buf.len())
+    }
+}
+
+/// A shelf of such sources, which counts the bytes that were read from all of them.
+#[derive(Drop)]
+struct Counting {
+    read: usize,
+}
+
+impl Shelf for Counting {
+    type Src = Endless;
+
+    ghost faults = { λ _. 0 };
+
+    ghost told = { λ _. None };
+
+    fn lend(&mut self, _name: &str) -> Result<Endless, Failed> {
+        Ok(Endless { read: 0 })
+    }
+
+    fn give_back(&mut self, src: Endless) {
+        self.read = self.read.saturating_add(src.read);
+    }
+}
+
+#[test]
+fn reads_one_byte_past_the_limit(rt: HostRuntime) -> Result<(), Fail> {
+    for limit in [0, 1, 65_535, 65_536, 200_000] {
+        let mut shelf = Counting { read: 0 };
+        let fetched = fetch_all(rt.alloc(), &mut shelf, "endless", limit);
+        assert!(rt;
+            is_same(&fetched, Err(FetchFault::TooLarge { limit })),
+            "{limit}"
+        );
+        assert_eq!(rt; shelf.read, limit as usize + 1);
+    }
     Ok(())
 }
