@@ -1,5 +1,5 @@
 -- One operation done on what cells hold, which is cold afterwards.
-use Rattle.std.proofs.Common.{arith, ◌≡◌, ◌≢◌, ℕ, suc, ◌+◌, ◌<◌, false, List, [], ◌∷◌, ◌++◌, map, take, drop, set, get_or, length, refl, sym, ◌∙◌, ap, ap₂, subst, Option, Some, None, option_map, slice_get}
+use Rattle.std.proofs.Common.{arith, ◌≡◌, ◌≢◌, ℕ, ◌+◌, ◌<◌, false, List, [], ◌∷◌, ◌++◌, map, take, drop, set, get_or, length, refl, sym, ◌∙◌, ap, ap₂, subst, Option, Some, None, option_map, slice_get}
 use Rattle.std.specs.List.{AllByRecursion}
 use Rattle.std.proofs.Math.Seq.{take-append_seam}
 use Rattle.std.proofs.lemmas.Option.{slice_get-get_or}
@@ -12,7 +12,6 @@ use Rattle.op_table.specs.Act.{acted}
 use Rattle.op_table.specs.Touch.{touches}
 use Rattle.op_cells.specs.declared.cells.Cell.{Cell}
 use Rattle.op_cells.specs.Cold.{chilled, cooled, MayRunCold, RanCold}
-use Rattle.op_cells.specs.Log.{LogData}
 use Rattle.op_cells.specs.Numbering.{index_of, IsThere}
 use Rattle.op_cells.specs.Places.{adjust, adjust_all, content_at, content_or, holding, AreInTurn, AreWithin}
 use Rattle.op_cells.proofs.Adjusting.{adjust-long, adjust-own, adjust-other, adjust-set, drop_next}

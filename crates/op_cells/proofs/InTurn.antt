@@ -15,7 +15,7 @@ use Rattle.op_table.specs.declared.kinds.OpKind.TheVariants.{Split, Move, Enter,
 use Rattle.op_table.specs.declared.contents.Content.{Content}
 use Rattle.op_table.specs.Act.{needs_on, why_on}
 use Rattle.op_table.specs.Step.{has_trap, has_segment, has_junction}
-use Rattle.op_table.specs.Touch.{touches, named}
+use Rattle.op_table.specs.Touch.{most_bits, possible, touches, named}
 use Rattle.op_table.proofs.Shared.{all_met}
 use Rattle.op_cells.specs.Numbering.{index_of, IsThere}
 use Rattle.op_cells.specs.Placed.{bits_below, names_parts_there}
@@ -36,9 +36,15 @@ all_ascending : (P : Res → Type 0) (rs : List Res) → AllByRecursion P rs →
 all_ascending P [] ps = tt
 all_ascending P (r ∷ rs) ps = all_with P r (ascending rs) ps.0 (all_ascending P rs ps.1)
 
-bits_there : (m : MachineData) (n : ℕ) (bs : List Bit) → list_all (λ b. nat_lt b.0 n) bs ≡ true → AllByRecursion (IsThere m n) (map res.Bit bs)
+bits_there : (m : MachineData) (n : ℕ) (bs : List Bit) → list_all (λ b. nat_lt b.0 n) bs ≡ true → AllByRecursion (IsThere m n) (map res.Bit (possible bs))
 bits_there m n [] h = tt
-bits_there m n (b ∷ bs) h = let both = and_parts (nat_lt b.0 n) (list_all (λ b. nat_lt b.0 n) bs) h in (ltb-true b.0 n both.0, bits_there m n bs both.1)
+bits_there m n (b ∷ bs) h =
+    let both = and_parts (nat_lt b.0 n) (list_all (λ b. nat_lt b.0 n) bs) h in
+    go (nat_lt b.0 most_bits) (ltb-true b.0 n both.0) (bits_there m n bs both.1)
+  where
+    go : (c : Bool) → b.0 < n → AllByRecursion (IsThere m n) (map res.Bit (possible bs)) → AllByRecursion (IsThere m n) (map res.Bit (if c then b ∷ possible bs else possible bs))
+    go true own rest = (own, rest)
+    go false own rest = rest
 
 traps_there : (m : MachineData) (n : ℕ) (ts : List TrapId) → list_all (λ t. has_trap m t.0) ts ≡ true → AllByRecursion (IsThere m n) (map res.Trap ts)
 traps_there m n [] h = tt

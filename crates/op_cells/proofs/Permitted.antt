@@ -3,7 +3,6 @@ use Rattle.std.proofs.Common.{◌≡◌, ℕ, ◌+◌, ◌<◌, ◌^◌, Bool, t
 use Rattle.std.specs.List.{AllByRecursion, list_all}
 use Rattle.std.proofs.lemmas.List.Elements.{All-from_recursion}
 use Rattle.std.proofs.lemmas.Bool.{and_parts, false≢true, ltb-true}
-use Rattle.std.proofs.lemmas.Option.{none-some, slice_get_within}
 use Rattle.qccd_base.specs.declared.names.Res.{Res}
 use Rattle.qccd_machine.specs.Machine.{MachineData}
 use Rattle.op_table.specs.declared.kinds.OpKind.{OpKind}
@@ -11,7 +10,7 @@ use Rattle.op_table.specs.declared.contents.Content.{Content}
 use Rattle.op_table.specs.declared.contents.Content.TheVariants as holds
 use Rattle.op_table.specs.Act.{why_on}
 use Rattle.op_table.specs.Contents.{heat_held}
-use Rattle.op_table.specs.Touch.{touches, is_first, is_head}
+use Rattle.op_table.specs.Touch.{touches, is_head}
 use Rattle.op_table.proofs.Neighbours.{same_res_is}
 use Rattle.op_cells.specs.declared.cells.Cell.{Cell}
 use Rattle.op_cells.specs.Acted.{CellData, data_of}

@@ -11,7 +11,7 @@ use Rattle.qccd_base.specs.declared.names.Res.TheVariants as res
 use Rattle.qccd_base.specs.Resource.{ascending}
 use Rattle.qccd_circuit.specs.Item.{bits_of}
 use Rattle.op_table.specs.Op.{IsOp}
-use Rattle.op_table.specs.Touch.{touches}
+use Rattle.op_table.specs.Touch.{possible, touches}
 use Rattle.op_table.proofs.Needs.{touches-item, touches-fence}
 use Rattle.op_table.specs.Clock.{duration}
 use Rattle.op_table.specs.declared.contents.Content.{Content}
@@ -91,7 +91,7 @@ touches_some (Merge g t e) kept = omega arith
 touches_some (Rot t p) kept = omega arith
 touches_some (GSwap t low high) kept = omega arith
 touches_some (Item number t item at) kept =
-    let some : length (touches (Item number t item at)) ≡ suc (length (ascending (map res.Bit (bits_of item)))) = ap (λ (rs : List Res). length rs) (touches-item number t item at) in omega (arith, some)
+    let some : length (touches (Item number t item at)) ≡ suc (length (ascending (map res.Bit (possible (bits_of item))))) = ap (λ (rs : List Res). length rs) (touches-item number t item at) in omega (arith, some)
 touches_some (Fence number item traps) kept =
     let some : length (touches (Fence number item traps)) ≡ length traps = ap (λ (rs : List Res). length rs) (touches-fence number item traps kept) ∙ mapped_long res.Trap traps in
     let more : 0 < length traps = kept.1 in
