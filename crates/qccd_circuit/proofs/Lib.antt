@@ -1,5 +1,6 @@
 pub mod CircuitLemmas
 pub mod Ranges
+pub mod Reading
 pub mod Shared
 pub mod MarkLemmas
 pub mod Rising

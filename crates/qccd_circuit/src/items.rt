@@ -1,8 +1,8 @@
 //! Items of circuits.
 
-ghost use Rattle.std.specs.Prelude.{◌≡◌, ◌↔◌, ◌<◌, All, IfOk, IsTrue, None, get_or, length};
+ghost use Rattle.std.specs.Prelude.{◌≡◌, ◌↔◌, ◌+◌, ◌<◌, ◌≤◌, All, IfOk, IsTrue, get_or, length};
 ghost use Rattle.qccd_circuit.specs.Circuit.{IsWithin};
-ghost use Rattle.qccd_circuit.specs.Item.{Fits, bits_from, cond_bits};
+ghost use Rattle.qccd_circuit.specs.Item.{Fits, IsCond, bits_from, bits_of, cond_bits};
 ghost use Rattle.qccd_circuit.specs.Operands.{operands_of};
 
 use crate::kinds::{Cond, ItemKind};
@@ -10,9 +10,6 @@ use crate::texts::{AngleList, Name};
 use qccd_base::{Bit, BitList, NoMemory, Qubit, QubitList};
 use std::alloc::Global;
 use std::marker::Model;
-
-// The condition of an item that has none.
-const UNCONDITIONAL: Option<Cond> = None;
 
 /// One item of a circuit: a gate, a measurement, a reset or a barrier, that fits.
 #[derive(Debug, Drop)]
@@ -22,18 +19,18 @@ pub struct Item {
     angles: AngleList,
     qubits: QubitList,
     bits: BitList,
+    cond: Option<Cond>,
 }
 
 impl Model for Item {
-    ghost use Rattle.std.specs.Prelude.{◌≡◌, None};
+    ghost use Rattle.std.specs.Prelude.{◌≡◌};
     ghost use Rattle.qccd_circuit.specs.Item.{ItemData, Fits};
 
     ghost Value = { ItemData };
 
-    // No item is conditional yet, so none takes room for a condition.
-    ghost view = { λ a. record { kind = a.kind; name = a.name; angles = a.angles; qubits = a.qubits; bits = a.bits; cond = None } };
+    ghost view = { λ a. record { kind = a.kind; name = a.name; angles = a.angles; qubits = a.qubits; bits = a.bits; cond = a.cond } };
 
-    ghost invariant = { λ a. Fits (record { kind = a.kind; name = a.name; angles = a.angles; qubits = a.qubits; bits = a.bits; cond = None }) };
+    ghost invariant = { λ a. Fits (record { kind = a.kind; name = a.name; angles = a.angles; qubits = a.qubits; bits = a.bits; cond = a.cond }) };
 }
 
 impl Item {
@@ -47,9 +44,6 @@ impl Item {
         cond: Option<Cond>,
     ) -> Item
         requires fits { Fits (record { kind = kind; name = name; angles = angles; qubits = qubits; bits = bits; cond = cond }) }
-
-        // No item is conditional yet.
-        requires unconditional { cond ≡ None }
         ensures { result ≡ record { kind = kind; name = name; angles = angles; qubits = qubits; bits = bits; cond = cond } }
     {
         Item {
@@ -58,6 +52,7 @@ impl Item {
             angles,
             qubits,
             bits,
+            cond,
         }
     }
 
@@ -99,14 +94,9 @@ impl Item {
 
     /// The item's condition.
     pub fn cond(&self) -> &Option<Cond>
-        ensures value { result.now ≡ self.now.cond }
-
-        // No item is conditional yet.
-        ensures unconditional { self.now.cond ≡ None }
+        ensures { result.now ≡ self.now.cond }
     {
-        // The item is of this form, as the rule of its type tells.
-        let _kind = &self.kind;
-        &UNCONDITIONAL
+        &self.cond
     }
 
     /// How many operands the item has: its qubits, the bits that it writes, and those that its condition
@@ -114,6 +104,8 @@ impl Item {
     pub fn operand_count(&self) -> usize
         ensures { result ≡ length (operands_of self.now) }
     {
+        // The item fits, as the contract of its kind tells.
+        let _kind = self.kind();
         let (_, read) = read_bits(self.cond());
         let qubits = self.qubits.as_slice();
         let bits = self.bits.as_slice();
@@ -134,6 +126,8 @@ impl Item {
         if k < bits.len() {
             return 2 * usize::from(bits[k].0) + 1;
         }
+        // The item fits, so no bit that its condition reads is above the last number of a bit.
+        let _kind = self.kind();
         let (first, _) = read_bits(self.cond());
         2 * (usize::from(first) + (k - bits.len())) + 1
     }
@@ -155,6 +149,7 @@ impl Item {
             angles,
             qubits,
             bits: BitList::of(bits),
+            cond: self.cond,
         })
     }
 
@@ -163,9 +158,15 @@ impl Item {
     pub fn is_within(&self, qubits: u16, bits: u16) -> bool
         ensures { IsTrue result ↔ IsWithin qubits bits self.now }
     {
-        qubits_below(self.qubits.as_slice(), qubits)
-            && bits_below(self.bits.as_slice(), bits)
-            && cond_below(self.cond(), bits)
+        qubits_below(self.qubits.as_slice(), qubits) && self.uses_bits_below(bits)
+    }
+
+    // Whether each bit that the item writes or its condition reads is below the count.
+    #[tactic(auto, using(crate::proofs::Reading::all_below, crate::proofs::Reading::written_below, crate::proofs::Reading::read_below))]
+    fn uses_bits_below(&self, count: u16) -> bool
+        ensures { IsTrue result ↔ All (λ b. b.0 < count) (bits_of self.now) }
+    {
+        bits_below(self.bits.as_slice(), count) && cond_below(self.cond(), count)
     }
 }
 
@@ -183,7 +184,9 @@ fn copied(alloc: Global, bits: &[Bit]) -> Result<Vec<Bit>, NoMemory>
 
 // The first of the bits that the condition reads, and how many there are.
 fn read_bits(cond: &Option<Cond>) -> (u16, u16)
-    ensures { cond_bits cond.now ≡ bits_from result.0 result.1 }
+    requires { IsCond cond.now }
+    ensures value { cond_bits cond.now ≡ bits_from result.0 result.1 }
+    ensures end { result.0 + result.1 ≤ 65536 }
 {
     match cond {
         None => (0, 0),

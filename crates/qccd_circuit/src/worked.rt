@@ -3,6 +3,7 @@
 ghost use Rattle.std.specs.Prelude.{◌≡◌, ◌∷◌, [], IsTrue, codes, false, replicate};
 ghost use Rattle.qccd_circuit.specs.Example.{barrier_over, bits_are_one, cx_on, five_items, h_on, h_under, measure_into, reset_of, three_gates};
 ghost use Rattle.qccd_circuit.specs.Item.{AreAngles, Fits, IsCond, IsName};
+ghost use Rattle.qccd_circuit.specs.Operands.{operands_of};
 ghost use Rattle.qccd_circuit.specs.Order.{SameOrder};
 ghost use Rattle.qccd_circuit.specs.Sharing.{shares};
 
@@ -100,6 +101,12 @@ pub fn common_words_share()
 pub fn other_words_do_not_share()
     ensures qubits { shares (h_on 0) (h_on 1) ≡ false }
     ensures bits { shares (measure_into 0 0) (h_under 1 1 4) ≡ false }
+{}
+
+/// The operands of an item are its qubits, the bits that it writes and those that its condition reads.
+pub fn conditions_read_operands()
+    ensures measured { operands_of (record (measure_into 3 2) { cond = bits_are_one 4 1 }) ≡ 6 ∷ 5 ∷ 9 ∷ [] }
+    ensures read { operands_of (h_under 1 2 3) ≡ 2 ∷ 5 ∷ 7 ∷ 9 ∷ [] }
 {}
 
 /// Two gates on different qubits may change places before a gate on both.
