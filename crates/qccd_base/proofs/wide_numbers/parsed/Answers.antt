@@ -9,6 +9,8 @@ pub returns-in_default : goal.returns-in_default
 returns-in_default c = record { known = λ n small text. absurd (c.in_default.ensures.cases.0 (rw text (IsUtf8-decimal_wide n small))) }
 
 pub returns : goal.returns
-returns c = record { known = λ n small text.
-    let same = c.in-Ok.ensures.cases.0 ∙ text in
-    c.ok.ensures.value ∙ ap result_ok (parse-decimal_wide 128 n _ c.parse.result small (within n small) same c.parse.ensures.value.0) }
+returns c = record {
+  known = λ n small text.
+      let same = c.in-Ok.ensures.cases.0 ∙ text in
+      c.ok.ensures.value ∙ ap result_ok (parse-decimal_wide 128 n _ c.parse.result small (within n small) same c.parse.ensures.value.0);
+}
