@@ -116,4 +116,4 @@ abbrev pub joined : View → View → View
 joined v u = record v { begun = v.begun + u.begun; ended = v.ended ++ u.number ∷ u.ended; seen = greater_of v.seen u.seen }
 
 abbrev pub spent : View
-spent = record (fresh_view (program_data (preset_of L6 2) 0 0 [] []) 0 0 0) { live = false }
+spent = record (fresh_view (program_data (preset_of L6 2) 0 0 None [] []) 0 0 0) { live = false }

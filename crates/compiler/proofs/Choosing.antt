@@ -36,6 +36,7 @@ use Rattle.rebalancer.proofs.Room.{Rests}
 use Rattle.rebalancer.proofs.Settled.{rests_own}
 use Rattle.compiler.specs.Items.{item_ops, items_ops}
 use Rattle.compiler.specs.Chosen.{numbered, with_item, chosen, chosen_first, chosen_long, picked, IsTooLong}
+use Rattle.compiler.proofs.OfMode.{chosen_of_mode}
 use Rattle.compiler.proofs.Picked.{picked_order}
 use Rattle.compiler.proofs.Doing.{Fitting, ItemDone, ItemsDone, item_done, items_done}
 
@@ -216,6 +217,7 @@ chosen_legal c m mode circuit valid slots few =
       items_fit = fit_by_items (chosen c m mode).ops (subst (AllByRecursion (λ (e : ℕ × ItemData). Fits e.1)) (sym (chosen_does c m mode circuit valid slots)) (all_numbered (λ (e : ℕ × ItemData). Fits e.1) c.items (λ i item. at_number Fits c.items circuit.fit i item) (picked c m mode)));
       run = done.run;
       once = λ number. omega (arith, count_numbers number (items_in (chosen c m mode).ops), ap (count_by (λ i. i == number)) (chosen_order c m mode circuit valid slots), (picked_order c m mode).once number, one_at_most (nat_lt number (length c.items)));
+      of_mode = chosen_of_mode c m mode (length c.items);
     }
   where
     one_at_most : (b : Bool) → cond {A = ℕ} b 1 0 ≤ 1

@@ -32,7 +32,7 @@ use Rattle.compiler.specs.Bring.{bring, hop_on, hop_with_room, room_where_full, 
 use Rattle.ion_mapping.specs.Placement.{chains_at_start}
 use Rattle.compiler.specs.Chosen.{chosen_first, numbered, picked}
 use Rattle.compiler.specs.Items.{in_trap, item_ops, items_ops}
-use Rattle.compiler.specs.Mode.{is_of_mode}
+use Rattle.qccd_program.specs.Mode.{is_of_mode}
 
 abbrev pub AreOfMode : Mode → List OpKind → Type 0
 AreOfMode mode ops = AllByRecursion (λ op. IsTrue (is_of_mode (Some mode) op)) ops

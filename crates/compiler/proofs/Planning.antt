@@ -88,11 +88,11 @@ item_found items xs i d item same less is = slice_get-get_or items i d less ∙ 
 pub compiled_next : (c : CircuitData) (m : MachineData) (mode : Mode) (count i : ℕ) (item : ItemData) (p new : PlanData) → slice_get (picked c m mode) count ≡ Some i → slice_get c.items i ≡ Some item → p ≡ planned c m mode count → new ≡ with_ops p (item_ops m mode i item item.kind (state_of p)) → new ≡ planned c m mode (count + 1)
 compiled_next c m mode count i item p new number is plan done = done ∙ ap (λ (x : PlanData). with_ops x (item_ops m mode i item item.kind (state_of x))) plan ∙ planned_next c m mode count i item number is
 
-pub chosen_parts : (c : CircuitData) (m : MachineData) (mode : Mode) (qubits bits : ℕ) (start : List (List Ion)) (ops : List OpKind) → qubits ≡ c.qubits → bits ≡ c.bits → start ≡ chains_at_start c m → ops ≡ (chosen c m mode).ops → program_data m qubits bits start ops ≡ chosen c m mode
+pub chosen_parts : (c : CircuitData) (m : MachineData) (mode : Mode) (qubits bits : ℕ) (start : List (List Ion)) (ops : List OpKind) → qubits ≡ c.qubits → bits ≡ c.bits → start ≡ chains_at_start c m → ops ≡ (chosen c m mode).ops → program_data m qubits bits (Some mode) start ops ≡ chosen c m mode
 unfolding chosen_first
 chosen_parts c m mode qubits bits start ops q b s o =
-    ap (λ (n : ℕ). program_data m n bits start ops) q ∙ ap (λ (n : ℕ). program_data m c.qubits n start ops) b ∙ ap (λ (cs : List (List Ion)). program_data m c.qubits c.bits cs ops) s
-    ∙ ap (program_data m c.qubits c.bits (chains_at_start c m)) o
+    ap (λ (n : ℕ). program_data m n bits (Some mode) start ops) q ∙ ap (λ (n : ℕ). program_data m c.qubits n (Some mode) start ops) b ∙ ap (λ (cs : List (List Ion)). program_data m c.qubits c.bits (Some mode) cs ops) s
+    ∙ ap (program_data m c.qubits c.bits (Some mode) (chains_at_start c m)) o
 
 pub start_of : (c : CircuitData) (m : MachineData) (qubits : ℕ) (chains : List (List Ion)) → IsCircuit c → IsValid m → c.qubits ≤ slots_of m → qubits ≡ c.qubits → chains ≡ chains_at_start c m → IsStart m qubits chains
 start_of c m qubits chains circuit valid slots q is = subst (λ (n : ℕ). IsStart m n chains) (sym q) (subst (IsStart m c.qubits) (sym is) (placed_start c m circuit valid slots))

@@ -48,6 +48,7 @@ chosen_first c m mode count = record {
   machine = m;
   qubits = c.qubits;
   bits = c.bits;
+  mode = Some mode;
   start = chains_at_start c m;
   ops = items_ops m mode (numbered c.items (take count (picked c m mode))) (opening c.qubits c.bits (chains_at_start c m));
 }

@@ -99,6 +99,7 @@ pub fn compile(
         machine,
         circuit.qubits(),
         circuit.bits(),
+        Some(mode),
         start,
         plan.into_ops(),
     )?;

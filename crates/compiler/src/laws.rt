@@ -9,7 +9,7 @@ ghost use Rattle.op_table.specs.Run.{items_in};
 ghost use Rattle.qccd_program.specs.Implements.{Implements};
 ghost use Rattle.qccd_program.specs.Legal.{IsLegalProgram};
 ghost use Rattle.compiler.specs.Chosen.{chosen, chosen_first, chosen_long, picked, IsTooLong};
-ghost use Rattle.compiler.specs.Mode.{is_of_mode};
+ghost use Rattle.qccd_program.specs.Mode.{is_of_mode};
 
 /// The chosen program of a circuit within a machine's slots implements the circuit, its items in the order in
 /// which they are picked. With no more operations than a program may have it is legal.

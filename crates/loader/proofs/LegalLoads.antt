@@ -44,23 +44,23 @@ start_none m qubits chains start =
     ∙ ap₂ (λ (i : Option Ion) (t : Option TrapId). option_or (option_map BadStart i) (option_map StartOverfull t)) (none_bad qubits (ions_of chains) start.once) (none_overfull m chains start.capacities)
 
 pub legal_if_none : (m : MachineData) (raw : RawData) → raw.qubits ≤ 256 → raw.bits ≤ 256 → length raw.ops ≤ 4194304 → AllByRecursion IsOp raw.ops → AllByRecursion KeepsItemRule raw.ops
-    → IsStart m raw.qubits raw.chains → first_fault m (opening raw.qubits raw.bits raw.chains) [] 0 raw.ops ≡ None → IsLegalProgram (on_machine m raw)
+    → IsStart m raw.qubits raw.chains → first_fault m raw.mode (opening raw.qubits raw.bits raw.chains) [] 0 raw.ops ≡ None → IsLegalProgram (on_machine m raw)
 legal_if_none m raw qubits bits few kinds items start none =
-    let well = nothing_wrong m (opening raw.qubits raw.bits raw.chains) [] 0 raw.ops none in
-    record { qubits = qubits; bits = bits; few = few; start = start; ops = kinds; items_fit = items; run = well.0; once = well.1 }
+    let well = nothing_wrong m raw.mode (opening raw.qubits raw.bits raw.chains) [] 0 raw.ops none in
+    record { qubits = qubits; bits = bits; few = few; start = start; ops = kinds; items_fit = items; run = well.0; once = well.1; of_mode = well.2 }
 
 pub none_if_legal : (m : MachineData) (raw : RawData) → IsLegalProgram (on_machine m raw) → load_refusal m raw ≡ None
 none_if_legal m raw legal =
-    ap₂ option_or (start_none m raw.qubits raw.chains legal.start) (all_well m (opening raw.qubits raw.bits raw.chains) [] 0 raw.ops legal.run legal.once)
+    ap₂ option_or (start_none m raw.qubits raw.chains legal.start) (all_well m raw.mode (opening raw.qubits raw.bits raw.chains) [] 0 raw.ops legal.run legal.once legal.of_mode)
 
-pub none_parts : (m : MachineData) (raw : RawData) → load_refusal m raw ≡ None → (start_refusal m raw.qubits raw.chains ≡ None) × (first_fault m (opening raw.qubits raw.bits raw.chains) [] 0 raw.ops ≡ None)
-none_parts m raw none = or_parts (start_refusal m raw.qubits raw.chains) (first_fault m (opening raw.qubits raw.bits raw.chains) [] 0 raw.ops) none
+pub none_parts : (m : MachineData) (raw : RawData) → load_refusal m raw ≡ None → (start_refusal m raw.qubits raw.chains ≡ None) × (first_fault m raw.mode (opening raw.qubits raw.bits raw.chains) [] 0 raw.ops ≡ None)
+none_parts m raw none = or_parts (start_refusal m raw.qubits raw.chains) (first_fault m raw.mode (opening raw.qubits raw.bits raw.chains) [] 0 raw.ops) none
 
 -- what is told behind chains that are a start is told of all
 pub answers_behind : {T : Type 0} (r : Result T LoadFault) (a b : Option LoadFault) → a ≡ None → Answers r b → Answers r (option_or a b)
 answers_behind r a b none told = subst (Answers r) (sym (ap (λ o. option_or o b) none)) told
 
 pub legal_when : {T : Type 0} (r : Result T LoadFault) (m : MachineData) (raw : RawData) → raw.qubits ≤ 256 → raw.bits ≤ 256 → length raw.ops ≤ 4194304 → IsStart m raw.qubits raw.chains
-    → Answers r (first_fault m (opening raw.qubits raw.bits raw.chains) [] 0 raw.ops) → OnOk r (AllByRecursion IsOp raw.ops) → OnOk r (AllByRecursion KeepsItemRule raw.ops) → OnOk r (IsLegalProgram (on_machine m raw))
+    → Answers r (first_fault m raw.mode (opening raw.qubits raw.bits raw.chains) [] 0 raw.ops) → OnOk r (AllByRecursion IsOp raw.ops) → OnOk r (AllByRecursion KeepsItemRule raw.ops) → OnOk r (IsLegalProgram (on_machine m raw))
 legal_when (Ok x) m raw qubits bits few start told kinds items = legal_if_none m raw qubits bits few kinds items start told
 legal_when (Err e) m raw qubits bits few start told kinds items = tt

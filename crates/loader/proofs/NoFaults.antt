@@ -1,12 +1,13 @@
--- When operations have no fault: they are a run in which no item stands twice.
-use Rattle.std.proofs.Common.{◌≡◌, ℕ, ◌+◌, ◌≤◌, Bool, true, false, cond, ◌||◌, ◌==◌, List, [], ◌∷◌, ◌++◌, refl, sym, ◌∙◌, ap, subst, arith, Option, Some, None, option_map, inl, inr, append_assoc, if◌then◌else◌}
-use Rattle.std.specs.Prelude.{count_by}
-use Rattle.std.specs.List.{list_any, cons_option}
+-- When operations have no fault: they are a run of the mode in which no item stands twice.
+use Rattle.std.proofs.Common.{◌≡◌, ℕ, ◌+◌, ◌≤◌, Bool, true, false, cond, ◌||◌, ◌==◌, List, [], ◌∷◌, ◌++◌, refl, sym, ◌∙◌, ap, ap₂, subst, arith, Option, Some, None, option_map, inl, inr, append_assoc, if◌then◌else◌}
+use Rattle.std.specs.Prelude.{IsTrue, count_by}
+use Rattle.std.specs.List.{AllByRecursion, list_any, cons_option}
 use Rattle.std.specs.Option.{option_or}
 use Rattle.std.proofs.lemmas.Bool.{cases_Bool, eqb-true}
 use Rattle.std.proofs.lemmas.Bool.Decides.{eqb_tells}
 use Rattle.std.proofs.lemmas.List.Folds.{list_any-append}
 use Rattle.std.proofs.lemmas.List.Elements.{filter_map-append}
+use Rattle.qccd_base.specs.declared.names.Mode.{Mode}
 use Rattle.qccd_circuit.specs.Item.{ItemData}
 use Rattle.qccd_machine.specs.Machine.{MachineData}
 use Rattle.op_table.specs.declared.kinds.OpKind.{OpKind}
@@ -15,8 +16,9 @@ use Rattle.op_table.specs.Run.{item_in, items_in, IsRun}
 use Rattle.op_table.specs.State.{State}
 use Rattle.op_table.specs.Step.{why, effect}
 use Rattle.op_table.proofs.Counts.{count_by-cons}
-use Rattle.loader.specs.declared.faults.LoadFault.TheVariants.{Illegal, ItemTwice}
-use Rattle.loader.specs.Refusal.{does_item, does_again, fault_behind, first_fault}
+use Rattle.qccd_program.specs.Mode.{is_of_mode}
+use Rattle.loader.specs.declared.faults.LoadFault.TheVariants.{Illegal, ItemTwice, WrongMode}
+use Rattle.loader.specs.Refusal.{does_item, does_again, mode_fault, fault_behind, first_fault}
 use Rattle.loader.proofs.Firsts.{some_none, true_false, some_counted, count_parts}
 
 abbrev pub Numbered : Type 0
@@ -54,13 +56,15 @@ pub or_parts : {X : Type 0} (a b : Option X) → option_or a b ≡ None → (a �
 or_parts None b e = (refl, e)
 or_parts (Some x) b e = absurd (some_none e)
 
-pub no_fault : (m : MachineData) (s : State) (earlier : List OpKind) (k : ℕ) (op : OpKind) → fault_behind m s earlier k op ≡ None → (does_again earlier (item_in op) ≡ false) × (why m s op ≡ None)
-no_fault m s earlier k op e = by_tests (does_again earlier (item_in op)) (why m s op) e
+pub no_fault : (m : MachineData) (mode : Option Mode) (s : State) (earlier : List OpKind) (k : ℕ) (op : OpKind) → fault_behind m mode s earlier k op ≡ None
+    → (does_again earlier (item_in op) ≡ false) × (why m s op ≡ None) × (is_of_mode mode op ≡ true)
+no_fault m mode s earlier k op e = by_tests (does_again earlier (item_in op)) (why m s op) (is_of_mode mode op) e
   where
-    by_tests : (b : Bool) (w : Option Why) → (if b then Some (ItemTwice k) else option_map (Illegal k) w) ≡ None → (b ≡ false) × (w ≡ None)
-    by_tests true w e = absurd (some_none e)
-    by_tests false None e = (refl, refl)
-    by_tests false (Some x) e = absurd (some_none e)
+    by_tests : (b : Bool) (w : Option Why) (t : Bool) → (if b then Some (ItemTwice k) else option_or (option_map (Illegal k) w) (if t then None else Some (WrongMode k))) ≡ None → (b ≡ false) × (w ≡ None) × (t ≡ true)
+    by_tests true w t e = absurd (some_none e)
+    by_tests false None true e = (refl, refl, refl)
+    by_tests false None false e = absurd (some_none e)
+    by_tests false (Some x) t e = absurd (some_none e)
 
 counted_more : (o : Option Numbered) (rest : List Numbered) (n : ℕ) (h : Bool) → times n rest ≤ (if h || is_number o n then 0 else 1) → (is_number o n ≡ true → h ≡ false) → times n (cons_option o rest) ≤ (if h then 0 else 1)
 counted_more None rest n h few own = subst (λ (b : Bool). times n rest ≤ (if b then 0 else 1)) (or_false h) few
@@ -72,16 +76,17 @@ counted_more (Some e) rest n h few own = by_tests (e.0 == n) h few own (count_by
     by_tests false true few own is = omega (arith, few, is)
     by_tests false false few own is = omega (arith, few, is)
 
-pub nothing_wrong : (m : MachineData) (s : State) (earlier : List OpKind) (k : ℕ) (ops : List OpKind) → first_fault m s earlier k ops ≡ None
-    → IsRun m s ops × ((n : ℕ) → times n (items_in ops) ≤ (if does_item earlier n then 0 else 1))
-nothing_wrong m s earlier k [] none = (tt, λ n. omega arith)
-nothing_wrong m s earlier k (op ∷ ops) none =
-    let parts = or_parts (fault_behind m s earlier k op) (first_fault m (effect m s op) (earlier ++ op ∷ []) (k + 1) ops) none in
-    let here = no_fault m s earlier k op parts.0 in
-    let rest = nothing_wrong m (effect m s op) (earlier ++ op ∷ []) (k + 1) ops parts.1 in (
+pub nothing_wrong : (m : MachineData) (mode : Option Mode) (s : State) (earlier : List OpKind) (k : ℕ) (ops : List OpKind) → first_fault m mode s earlier k ops ≡ None
+    → IsRun m s ops × ((n : ℕ) → times n (items_in ops) ≤ (if does_item earlier n then 0 else 1)) × AllByRecursion (λ op. IsTrue (is_of_mode mode op)) ops
+nothing_wrong m mode s earlier k [] none = (tt, λ n. omega arith, tt)
+nothing_wrong m mode s earlier k (op ∷ ops) none =
+    let parts = or_parts (fault_behind m mode s earlier k op) (first_fault m mode (effect m s op) (earlier ++ op ∷ []) (k + 1) ops) none in
+    let here = no_fault m mode s earlier k op parts.0 in
+    let rest = nothing_wrong m mode (effect m s op) (earlier ++ op ∷ []) (k + 1) ops parts.1 in (
       (here.1, rest.0),
       λ n.
           counted_more (item_in op) (items_in ops) n (does_item earlier n) (subst (λ (b : Bool). times n (items_in ops) ≤ (if b then 0 else 1)) (does_more earlier op n) (rest.1 n)) (not_again (item_in op) n here.0),
+      (here.2, rest.2),
     )
   where
     not_again : (o : Option Numbered) (n : ℕ) → does_again earlier o ≡ false → is_number o n ≡ true → does_item earlier n ≡ false
@@ -90,11 +95,12 @@ nothing_wrong m s earlier k (op ∷ ops) none =
 
 -- ---- and back
 
-pub all_well : (m : MachineData) (s : State) (earlier : List OpKind) (k : ℕ) (ops : List OpKind) → IsRun m s ops → ((n : ℕ) → times n (items_in (earlier ++ ops)) ≤ 1) → first_fault m s earlier k ops ≡ None
-all_well m s earlier k [] run few = refl
-all_well m s earlier k (op ∷ ops) run few =
-    let rest = all_well m (effect m s op) (earlier ++ op ∷ []) (k + 1) ops run.1 (λ n. subst (λ (xs : List OpKind). times n (items_in xs) ≤ 1) (sym (append_assoc earlier (op ∷ []) ops)) (few n)) in
-    ap (λ o. option_or o (first_fault m (effect m s op) (earlier ++ op ∷ []) (k + 1) ops)) (well_here (item_in op) refl) ∙ rest
+pub all_well : (m : MachineData) (mode : Option Mode) (s : State) (earlier : List OpKind) (k : ℕ) (ops : List OpKind) → IsRun m s ops → ((n : ℕ) → times n (items_in (earlier ++ ops)) ≤ 1)
+    → AllByRecursion (λ op. IsTrue (is_of_mode mode op)) ops → first_fault m mode s earlier k ops ≡ None
+all_well m mode s earlier k [] run few of_mode = refl
+all_well m mode s earlier k (op ∷ ops) run few of_mode =
+    let rest = all_well m mode (effect m s op) (earlier ++ op ∷ []) (k + 1) ops run.1 (λ n. subst (λ (xs : List OpKind). times n (items_in xs) ≤ 1) (sym (append_assoc earlier (op ∷ []) ops)) (few n)) of_mode.1 in
+    ap (λ o. option_or o (first_fault m mode (effect m s op) (earlier ++ op ∷ []) (k + 1) ops)) (well_here (item_in op) refl) ∙ rest
   where
     total : (o : Option Numbered) → item_in op ≡ o → (n : ℕ) → times n (items_in (earlier ++ op ∷ ops)) ≡ times n (items_in earlier) + times n (cons_option o (items_in ops))
     total o is n = ap (times n) (items_parts earlier (op ∷ ops)) ∙ count_parts (λ (e : Numbered). e.0 == n) (items_in earlier) (items_in (op ∷ ops)) ∙ ap (λ (o : Option Numbered). times n (items_in earlier) + times n (cons_option o (items_in ops))) is
@@ -112,7 +118,7 @@ all_well m s earlier k (op ∷ ops) run few =
       | inr other ↦ other
     ]
 
-    well_here : (o : Option Numbered) → item_in op ≡ o → fault_behind m s earlier k op ≡ None
+    well_here : (o : Option Numbered) → item_in op ≡ o → fault_behind m mode s earlier k op ≡ None
     well_here o is =
-        ap (λ b. if b then Some (ItemTwice k) else option_map (Illegal k) (why m s op)) (ap (does_again earlier) is ∙ not_again o is)
-        ∙ ap (option_map (Illegal k)) run.0
+        ap (λ b. if b then Some (ItemTwice k) else option_or (option_map (Illegal k) (why m s op)) (mode_fault mode k op)) (ap (does_again earlier) is ∙ not_again o is)
+        ∙ ap₂ (λ (w : Option Why) (t : Bool). option_or (option_map (Illegal k) w) (if t then None else Some (WrongMode k))) run.0 of_mode.0

@@ -1,6 +1,9 @@
 -- One operation: what is told of it, and what is noted.
 use Rattle.std.proofs.Common.{◌≡◌, ℕ, Bool, true, false, cond, ◌||◌, ◌==◌, nat_lt, List, [], ◌∷◌, ◌++◌, refl, sym, ◌∙◌, ap, ap₂, subst, arith, Option, Some, None, option_map, inl, inr, if◌then◌else◌}
 use Rattle.std.specs.List.{list_any}
+use Rattle.std.specs.Option.{option_or}
+use Rattle.qccd_base.specs.declared.names.Mode.{Mode}
+use Rattle.qccd_program.specs.Mode.{is_of_mode}
 use Rattle.std.specs.BTreeMap.{is_at}
 use Rattle.std.specs.BTreeSet.{BTreeSet, contains, keys, Updates}
 use Rattle.std.proofs.lemmas.Option.{same_Some}
@@ -15,24 +18,28 @@ use Rattle.op_table.specs.Run.{item_in}
 use Rattle.op_table.specs.State.{State}
 use Rattle.op_table.specs.Step.{why}
 use Rattle.loader.specs.declared.faults.LoadFault.{LoadFault}
-use Rattle.loader.specs.declared.faults.LoadFault.TheVariants.{Illegal, ItemTwice}
+use Rattle.loader.specs.declared.faults.LoadFault.TheVariants.{Illegal, ItemTwice, WrongMode}
 use Rattle.loader.specs.Refusal.{does_item, does_again, fault_behind}
 use Rattle.transport_asm.proofs.Marked.{same_key}
 use Rattle.loader.specs.Marked.{AreDone}
 use Rattle.loader.proofs.Firsts.{some_none}
 use Rattle.loader.proofs.NoFaults.{Numbered, is_number, does_more}
 
-abbrev told_of : ℕ → Bool → Option Why → Option LoadFault
-told_of k again w = if again then Some (ItemTwice k) else option_map (Illegal k) w
+abbrev told_of : ℕ → Bool → Option Why → Bool → Option LoadFault
+told_of k again w of_mode = if again then Some (ItemTwice k) else option_or (option_map (Illegal k) w) (if of_mode then None else Some (WrongMode k))
 
-pub told_again : (m : MachineData) (s : State) (earlier : List OpKind) (k : ℕ) (op : OpKind) → does_again earlier (item_in op) ≡ true → fault_behind m s earlier k op ≡ Some (ItemTwice k)
-told_again m s earlier k op again = ap (λ (b : Bool). told_of k b (why m s op)) again
+pub told_again : (m : MachineData) (mode : Option Mode) (s : State) (earlier : List OpKind) (k : ℕ) (op : OpKind) → does_again earlier (item_in op) ≡ true → fault_behind m mode s earlier k op ≡ Some (ItemTwice k)
+told_again m mode s earlier k op again = ap (λ (b : Bool). told_of k b (why m s op) (is_of_mode mode op)) again
 
-pub told_illegal : (m : MachineData) (s : State) (earlier : List OpKind) (k : ℕ) (op : OpKind) (w : Why) → does_again earlier (item_in op) ≡ false → why m s op ≡ Some w → fault_behind m s earlier k op ≡ Some (Illegal k w)
-told_illegal m s earlier k op w new is = ap₂ (told_of k) new is
+pub told_illegal : (m : MachineData) (mode : Option Mode) (s : State) (earlier : List OpKind) (k : ℕ) (op : OpKind) (w : Why) → does_again earlier (item_in op) ≡ false → why m s op ≡ Some w → fault_behind m mode s earlier k op ≡ Some (Illegal k w)
+told_illegal m mode s earlier k op w new is = ap₂ (λ (b : Bool) (x : Option Why). told_of k b x (is_of_mode mode op)) new is
 
-pub told_none : (m : MachineData) (s : State) (earlier : List OpKind) (k : ℕ) (op : OpKind) → does_again earlier (item_in op) ≡ false → why m s op ≡ None → fault_behind m s earlier k op ≡ None
-told_none m s earlier k op new legal = ap₂ (told_of k) new legal
+pub told_none : (m : MachineData) (mode : Option Mode) (s : State) (earlier : List OpKind) (k : ℕ) (op : OpKind) → does_again earlier (item_in op) ≡ false → why m s op ≡ None → is_of_mode mode op ≡ true → fault_behind m mode s earlier k op ≡ None
+told_none m mode s earlier k op new legal of = ap₂ (λ (b : Bool) (x : Option Why). told_of k b x (is_of_mode mode op)) new legal ∙ ap (told_of k false None) of
+
+pub told_wrong : (m : MachineData) (mode : Option Mode) (s : State) (earlier : List OpKind) (k : ℕ) (op : OpKind) → does_again earlier (item_in op) ≡ false → why m s op ≡ None → is_of_mode mode op ≡ false
+    → fault_behind m mode s earlier k op ≡ Some (WrongMode k)
+told_wrong m mode s earlier k op new legal other = ap₂ (λ (b : Bool) (x : Option Why). told_of k b x (is_of_mode mode op)) new legal ∙ ap (told_of k false None) other
 
 -- ---- the items that were done
 

@@ -4,6 +4,7 @@ use Rattle.std.specs.List.{list_any, range_with_len}
 use Rattle.std.specs.Option.{option_or}
 use Rattle.qccd_base.specs.Names.{ion, trap}
 use Rattle.qccd_base.specs.declared.names.Ion.{Ion}
+use Rattle.qccd_base.specs.declared.names.Mode.{Mode}
 use Rattle.qccd_base.specs.declared.names.TrapId.{TrapId}
 use Rattle.qccd_circuit.specs.Item.{ItemData}
 use Rattle.qccd_machine.specs.Machine.{MachineData}
@@ -11,14 +12,15 @@ use Rattle.op_table.specs.declared.kinds.OpKind.{OpKind}
 use Rattle.op_table.specs.Run.{item_in, items_in}
 use Rattle.op_table.specs.State.{State, opening}
 use Rattle.op_table.specs.Step.{why, effect}
+use Rattle.qccd_program.specs.Mode.{is_of_mode}
 use Rattle.qccd_program.specs.Program.{ProgramData}
 use Rattle.transport_asm.specs.Texts.{RawData}
 use Rattle.loader.specs.declared.faults.LoadFault.{LoadFault}
-use Rattle.loader.specs.declared.faults.LoadFault.TheVariants.{TrapCount, BadStart, StartOverfull, Illegal, ItemTwice, NoMemory}
+use Rattle.loader.specs.declared.faults.LoadFault.TheVariants.{TrapCount, BadStart, StartOverfull, Illegal, ItemTwice, WrongMode, NoMemory}
 
 -- the raw program on a machine
 abbrev pub on_machine : MachineData → RawData → ProgramData
-on_machine m raw = record { machine = m; qubits = raw.qubits; bits = raw.bits; start = raw.chains; ops = raw.ops }
+on_machine m raw = record { machine = m; qubits = raw.qubits; bits = raw.bits; mode = raw.mode; start = raw.chains; ops = raw.ops }
 
 -- the first number below n that passes, or none
 abbrev pub first_below : (ℕ → Bool) → ℕ → Option ℕ
@@ -66,14 +68,20 @@ abbrev pub does_again : List OpKind → Option (ℕ × ItemData) → Bool
 does_again earlier None = false
 does_again earlier (Some e) = does_item earlier e.0
 
--- what is wrong with operation k behind others, in a state: it repeats an item, or else it has no step
-abbrev pub fault_behind : MachineData → State → List OpKind → ℕ → OpKind → Option LoadFault
-fault_behind m s earlier k op = if does_again earlier (item_in op) then Some (ItemTwice k) else option_map (Illegal k) (why m s op)
+-- the program may not have it, for it names the other mode
+abbrev pub mode_fault : Option Mode → ℕ → OpKind → Option LoadFault
+mode_fault mode k op = if is_of_mode mode op then None else Some (WrongMode k)
+
+-- what is wrong with operation k behind others, in a state: it repeats an item, or else it has no step, or else the
+-- program names the other mode
+abbrev pub fault_behind : MachineData → Option Mode → State → List OpKind → ℕ → OpKind → Option LoadFault
+fault_behind m mode s earlier k op =
+    if does_again earlier (item_in op) then Some (ItemTwice k) else option_or (option_map (Illegal k) (why m s op)) (mode_fault mode k op)
 
 -- the first of these operations with which something is wrong, numbered from k
-abbrev pub first_fault : MachineData → State → List OpKind → ℕ → List OpKind → Option LoadFault
-first_fault m s earlier k [] = None
-first_fault m s earlier k (op ∷ ops) = option_or (fault_behind m s earlier k op) (first_fault m (effect m s op) (earlier ++ op ∷ []) (k + 1) ops)
+abbrev pub first_fault : MachineData → Option Mode → State → List OpKind → ℕ → List OpKind → Option LoadFault
+first_fault m mode s earlier k [] = None
+first_fault m mode s earlier k (op ∷ ops) = option_or (fault_behind m mode s earlier k op) (first_fault m mode (effect m s op) (earlier ++ op ∷ []) (k + 1) ops)
 
 -- ---- all in order
 
@@ -84,7 +92,7 @@ start_refusal m qubits chains =
     else Some (TrapCount (length chains) (length m.capacities))
 
 abbrev pub load_refusal : MachineData → RawData → Option LoadFault
-load_refusal m raw = option_or (start_refusal m raw.qubits raw.chains) (first_fault m (opening raw.qubits raw.bits raw.chains) [] 0 raw.ops)
+load_refusal m raw = option_or (start_refusal m raw.qubits raw.chains) (first_fault m raw.mode (opening raw.qubits raw.bits raw.chains) [] 0 raw.ops)
 
 -- a fault is the refusal; of memory nothing is said
 abbrev pub IsTold : LoadFault → Option LoadFault → Type 0
@@ -93,6 +101,7 @@ IsTold (BadStart i) refusal = refusal ≡ Some (BadStart i)
 IsTold (StartOverfull t) refusal = refusal ≡ Some (StartOverfull t)
 IsTold (Illegal op cause) refusal = refusal ≡ Some (Illegal op cause)
 IsTold (ItemTwice op) refusal = refusal ≡ Some (ItemTwice op)
+IsTold (WrongMode op) refusal = refusal ≡ Some (WrongMode op)
 IsTold NoMemory refusal = Unit {0}
 
 -- the answer is the refusal where there is one

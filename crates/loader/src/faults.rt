@@ -5,7 +5,7 @@ use qccd_base::{Ion, NoMemory, TrapId};
 use std::alloc::{AllocError, AllocFailed};
 
 /// Why a raw program is no program of a machine. Of several reasons the first is told: they stand here in
-/// their order, but for the two of operations, which are gone through one after another.
+/// their order, but for the three of operations, which are gone through one after another.
 #[derive(Clone, Copy, Debug, PartialEq, Eq)]
 pub enum LoadFault {
     /// Not as many chains were given as the machine has traps.
@@ -19,6 +19,8 @@ pub enum LoadFault {
     Illegal { op: u32, why: Why },
     /// The first operation that does an item once more, by its number.
     ItemTwice { op: u32 },
+    /// The first operation that a program of the named mode may not have. It repeats no item, and has a step.
+    WrongMode { op: u32 },
     /// Memory ran out.
     NoMemory,
 }

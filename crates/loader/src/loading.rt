@@ -29,6 +29,7 @@ fn is_program(alloc: Global, machine: &Machine, raw: &RawProgram) -> Result<(), 
         machine,
         raw.qubits,
         raw.bits,
+        raw.mode,
         chains,
         raw.ops.as_slice(),
     )
@@ -48,8 +49,9 @@ pub fn load(alloc: Global, machine: Machine, raw: RawProgram) -> Result<Program,
     let RawProgram {
         qubits,
         bits,
+        mode,
         chains,
         ops,
     } = raw;
-    Ok(Program::of(alloc, machine, qubits, bits, chains, ops)?)
+    Ok(Program::of(alloc, machine, qubits, bits, mode, chains, ops)?)
 }

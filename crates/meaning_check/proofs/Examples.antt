@@ -15,6 +15,7 @@ use Rattle.op_table.specs.Start.{IsStart}
 use Rattle.op_table.proofs.Counts.{count_by-cons}
 use Rattle.qccd_program.specs.Program.{opening_of}
 use Rattle.qccd_program.specs.Legal.{IsLegalProgram}
+use Rattle.qccd_program.proofs.Modes.{without_mode}
 use Rattle.meaning_check.specs.Verdict.{has_number, HasEach, IsVerdict}
 use Rattle.meaning_check.specs.declared.verdict.Verdict.TheVariants.{Differs, Order}
 use Rattle.meaning_check.specs.Example.{at, four_gates, in_one_trap, in_order, other_qubit, out_of_order, two_missing, two_others}
@@ -96,6 +97,7 @@ legal_of ops few kinds rule run once = record {
   items_fit = rule;
   run = run;
   once = once_each (items_in ops) once;
+  of_mode = without_mode ops;
 }
 
 -- ---- the programs are legal

@@ -1,5 +1,5 @@
 -- A circuit of four gates on two qubits, and programs in one trap, as worked examples.
-use Rattle.std.specs.Prelude.{ℕ, List, [], ◌∷◌, map}
+use Rattle.std.specs.Prelude.{ℕ, List, [], ◌∷◌, None, map}
 use Rattle.qccd_base.specs.Names.{ion, trap}
 use Rattle.qccd_circuit.specs.Circuit.{CircuitData}
 use Rattle.qccd_circuit.specs.Item.{ItemData}
@@ -23,7 +23,7 @@ at number item = Item number (trap 0) item (map (λ q. q.0) item.qubits)
 
 -- a program of two qubits in one trap
 abbrev pub in_one_trap : List OpKind → ProgramData
-in_one_trap ops = record { machine = single 4; qubits = 2; bits = 0; start = (ion 0 ∷ ion 1 ∷ []) ∷ []; ops = ops }
+in_one_trap ops = record { machine = single 4; qubits = 2; bits = 0; mode = None; start = (ion 0 ∷ ion 1 ∷ []) ∷ []; ops = ops }
 
 -- the gates on one qubit change places before the gate on both
 abbrev pub in_order : List OpKind

@@ -1,6 +1,6 @@
 -- What stays when pairs are taken away.
 use Rattle.std.proofs.Common.{arith, ◌≡◌, ℕ, zero, suc, ◌≤◌, ◌+◌, Bool, true, false, List, [], ◌∷◌, ◌++◌, map, reverse, length, refl, sym, ◌∙◌, ap, ap₂, subst, Option, Some, None, option_map, unwrap_or, Result, Ok, Err, IfOk, append_assoc, length-append}
-use Rattle.std.specs.Prelude.{filter_map}
+use Rattle.std.specs.Prelude.{IsTrue, filter_map}
 use Rattle.std.specs.List.{AllByRecursion, enumerate_from}
 use Rattle.std.proofs.lemmas.Bool.{false≢true}
 use Rattle.std.proofs.lemmas.List.{append-nil, map-append}
@@ -17,17 +17,19 @@ use Rattle.op_table.specs.Touch.{meets}
 use Rattle.op_table.proofs.Openings.{opening-safe}
 use Rattle.qccd_program.specs.Implements.{Implements}
 use Rattle.qccd_program.specs.Legal.{IsLegalProgram}
+use Rattle.qccd_program.specs.Mode.{is_of_mode}
 use Rattle.qccd_program.specs.Program.{ProgramData, opening_of, end_of}
 use Rattle.op_plan.proofs.Runs.{run_append, run_front, run_back, after_append}
 use Rattle.qccd_program.proofs.Runs.{run_safe}
 use Rattle.op_plan.specs.Cold.{cold}
 use Rattle.passes.specs.Undo.{undoes}
 use Rattle.passes.specs.Kept.{SameStands}
-use Rattle.passes.specs.Tidy.{Numbered, kinds, left_by, tidied}
+use Rattle.passes.specs.Tidy.{Numbered, kinds, left_by, staying, tidied}
 use Rattle.passes.specs.Swept.{swept}
 use Rattle.passes.proofs.Undone.{inverse, undone_is}
 use Rattle.passes.proofs.Stands.{pair_gone}
 use Rattle.passes.proofs.Removing.{left_is, all_turned, seen_left, seen_whole, turned, staying_is}
+use Rattle.passes.proofs.Parts.{part_keeps, part_staying}
 
 -- ---- facts of each operation of a list
 
@@ -184,6 +186,11 @@ keeps_program p legal = keeps_staying p (opening-safe p.machine p.qubits p.bits 
 
 -- ---- of programs
 
+-- what holds of each operation of a program holds of each that stays
+tidied_keeps : (p : ProgramData) (P : OpKind → Type 0) → AllByRecursion P p.ops → AllByRecursion P (tidied p).ops
+tidied_keeps p P all =
+    part_keeps P (staying p.ops) (enumerate_from 0 p.ops) (part_staying p.ops) (subst (AllByRecursion P) (sym (unnumbered 0 p.ops)) all)
+
 pub tidied_legal : (p : ProgramData) → IsLegalProgram p → IsLegalProgram (tidied p)
 tidied_legal p legal =
     let k = keeps_program p legal in
@@ -196,6 +203,7 @@ tidied_legal p legal =
       items_fit = k.fit;
       run = k.run;
       once = λ number. subst (λ (es : List (ℕ × ItemData)). Rattle.std.specs.Prelude.count_by (λ e. Rattle.std.proofs.Common.◌==◌ e.0 number) es ≤ 1) (sym k.items) (legal.once number);
+      of_mode = tidied_keeps p (λ op. IsTrue (is_of_mode p.mode op)) legal.of_mode;
     }
 
 pub tidied_ends : (p : ProgramData) → IsLegalProgram p → SameStands (end_of p) (end_of (tidied p))

@@ -6,6 +6,7 @@ use Rattle.std.proofs.lemmas.Option.{same_Some, none-some, slice_get_within}
 use Rattle.qccd_base.specs.Resource.{among}
 use Rattle.qccd_base.proofs.Resources.{all-from_among}
 use Rattle.qccd_base.specs.declared.names.Ion.{Ion}
+use Rattle.qccd_base.specs.declared.names.Mode.{Mode}
 use Rattle.qccd_base.specs.declared.names.Res.{Res}
 use Rattle.qccd_machine.specs.Machine.{MachineData}
 use Rattle.op_table.specs.declared.kinds.OpKind.{OpKind}
@@ -246,9 +247,9 @@ left_more k marks ops old new op gone is less mark now so_far =
 pub left_program : (p : ProgramData) (gone : List Bool) (ops : List OpKind) → ops ≡ left_in gone p.ops → kept_in gone (enumerate_from 0 p.ops) ≡ staying p.ops → ops ≡ (tidied p).ops
 left_program p gone ops left stays = left ∙ sym (left_kinds 0 gone p.ops) ∙ ap kinds stays
 
-pub parts_left : (p : ProgramData) (machine : MachineData) (qubits bits : ℕ) (start : List (List Ion)) (left ops : List OpKind) (gone marks : List Bool) → machine ≡ p.machine → qubits ≡ p.qubits → bits ≡ p.bits → start ≡ p.start
-    → left ≡ left_in marks ops → marks ≡ gone → ops ≡ p.ops → kept_in gone (enumerate_from 0 p.ops) ≡ staying p.ops → program_data machine qubits bits start left ≡ tidied p
-parts_left p machine qubits bits start left ops gone marks m q b s is same all stays = rw (m, q, b, s, now) refl
+pub parts_left : (p : ProgramData) (machine : MachineData) (qubits bits : ℕ) (mode : Option Mode) (start : List (List Ion)) (left ops : List OpKind) (gone marks : List Bool) → machine ≡ p.machine → qubits ≡ p.qubits → bits ≡ p.bits → mode ≡ p.mode → start ≡ p.start
+    → left ≡ left_in marks ops → marks ≡ gone → ops ≡ p.ops → kept_in gone (enumerate_from 0 p.ops) ≡ staying p.ops → program_data machine qubits bits mode start left ≡ tidied p
+parts_left p machine qubits bits mode start left ops gone marks m q b names s is same all stays = rw (m, q, b, names, s, now) refl
   where
     now : left ≡ (tidied p).ops
     now = left_program p gone left (is ∙ ap₂ left_in same all) stays

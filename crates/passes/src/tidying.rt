@@ -51,8 +51,9 @@ fn without_pairs(alloc: Global, program: Program) -> Result<Program, NoMemory>
     let left = left_ops(alloc, program.ops(), gone.as_slice())?;
     let qubits = program.qubits();
     let bits = program.bits();
+    let mode = program.mode();
     let (machine, start, _all) = program.into_parts();
-    Program::of(alloc, machine, qubits, bits, start, left)
+    Program::of(alloc, machine, qubits, bits, mode, start, left)
 }
 
 /// The program without the operations that undo each other, or that memory ran out.

@@ -1,7 +1,7 @@
 -- The program of the example is legal.
 use Rattle.std.proofs.lemmas.Bool.{ne_eqb, le-ltb, lt-ltb}
 use Rattle.std.proofs.Common.{◌≡◌, ◌≢◌, ◌≤◌, ◌<◌, Bool, true, false, cond, not, ◌||◌, ◌&&◌, if◌then◌else◌, nat_lt, get_or, ℕ, zero, suc, List, [], ◌∷◌, length, refl, ap, arith, ◌∙◌}
-use Rattle.std.specs.Prelude.{codes, count_by, flat_map, replicate, ◌==◌, ◌++◌, ◌+◌}
+use Rattle.std.specs.Prelude.{IsTrue, None, codes, count_by, flat_map, replicate, ◌==◌, ◌++◌, ◌+◌}
 use Rattle.std.specs.List.{AllByRecursion}
 use Rattle.qccd_circuit.specs.Item.{Fits, IsGateName, ItemData}
 use Rattle.qccd_circuit.specs.Example.{cx_on}
@@ -18,6 +18,7 @@ use Rattle.op_table.specs.Example.{pair}
 use Rattle.qccd_program.specs.Example.{x_on, start_chains, eight_ops, two_gates_and_one, exchange, exchanges}
 use Rattle.qccd_base.specs.declared.names.Ion.{Ion}
 use Rattle.qccd_machine.specs.Machine.{MachineData}
+use Rattle.qccd_program.specs.Mode.{is_of_mode}
 use Rattle.qccd_program.specs.Program.{program_data, opening_of}
 use Rattle.qccd_program.specs.Legal.{IsLegalProgram}
 
@@ -88,6 +89,7 @@ example-legal = record {
   items_fit = (cx_fits 0 1 refl, (x_fits 2, (tt, (tt, (tt, (tt, (tt, (cx_fits 0 3 refl, tt))))))));
   run = (refl, (refl, (refl, (refl, (refl, (refl, (refl, (refl, tt))))))));
   once = once_each;
+  of_mode = (refl, (refl, (refl, (refl, (refl, (refl, (refl, (refl, tt))))))));
 }
 
 exchange_run : (s : State) (n : ℕ) → 2 ≤ ions_in s 0 → IsRun pair s (replicate n exchange)
@@ -119,6 +121,7 @@ exchanges-legal n few = record {
   items_fit = all_replicated KeepsItemRule n tt;
   run = exchange_run (opening_of two_gates_and_one) n (omega arith);
   once = λ number. let none = ap (λ (es : List (ℕ × ItemData)). count_by (λ (e : ℕ × ItemData). e.0 == number) es) (no_items n) in omega (arith, none);
+  of_mode = all_replicated (λ op. IsTrue (is_of_mode None op)) n refl;
 }
 
 pub replicated-next : (ops : List OpKind) (n : ℕ) → ops ≡ replicate n exchange → ops ++ exchange ∷ [] ≡ replicate (n + 1) exchange
@@ -131,5 +134,5 @@ replicated-next ops n is = ap (λ (os : List OpKind). os ++ exchange ∷ []) is 
     one_more zero = refl
     one_more (suc n) = ap (λ (os : List OpKind). exchange ∷ os) (one_more n)
 
-pub exchanges-read : (m : MachineData) (start : List (List Ion)) (ops : List OpKind) (n k : ℕ) → m ≡ pair → start ≡ start_chains → ops ≡ replicate k exchange → k ≡ n → program_data m 4 0 start ops ≡ exchanges n
-exchanges-read m start ops n k machine chains made all = λ i. program_data (machine i) 4 0 (chains i) ((made ∙ ap (λ (j : ℕ). replicate j exchange) all) i)
+pub exchanges-read : (m : MachineData) (start : List (List Ion)) (ops : List OpKind) (n k : ℕ) → m ≡ pair → start ≡ start_chains → ops ≡ replicate k exchange → k ≡ n → program_data m 4 0 None start ops ≡ exchanges n
+exchanges-read m start ops n k machine chains made all = λ i. program_data (machine i) 4 0 None (chains i) ((made ∙ ap (λ (j : ℕ). replicate j exchange) all) i)

@@ -10,3 +10,4 @@ pub mod Stepping
 pub mod Tables
 pub mod Turning
 pub mod Worlds
+pub mod Modes

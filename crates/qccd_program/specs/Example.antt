@@ -1,6 +1,6 @@
 -- A program on a machine of two traps: two gates in the first trap, the way of an ion to the second, and a
 -- gate there.
-use Rattle.std.specs.Prelude.{ℕ, List, [], ◌∷◌, codes, replicate}
+use Rattle.std.specs.Prelude.{ℕ, List, [], ◌∷◌, None, codes, replicate}
 use Rattle.qccd_base.specs.Names.{qubit, ion, trap, segment}
 use Rattle.qccd_base.specs.declared.names.Ion.{Ion}
 use Rattle.qccd_base.specs.declared.names.End.TheVariants.{Left, Right}
@@ -34,7 +34,7 @@ eight_ops =
     ∷ []
 
 abbrev pub two_gates_and_one : ProgramData
-two_gates_and_one = record { machine = pair; qubits = 4; bits = 0; start = start_chains; ops = eight_ops }
+two_gates_and_one = record { machine = pair; qubits = 4; bits = 0; mode = None; start = start_chains; ops = eight_ops }
 
 abbrev pub entry : ℕ → Entry
 entry n = record { ion = ion n; qubit = qubit n }

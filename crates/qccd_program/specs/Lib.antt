@@ -6,6 +6,7 @@ pub mod First
 pub mod Implements
 pub mod Legal
 pub mod MeetsCells
+pub mod Mode
 pub mod Program
 pub mod Turn
 pub mod Turns

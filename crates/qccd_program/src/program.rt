@@ -15,7 +15,7 @@ use crate::first_cells::first_cells;
 use crate::turn_table::{TurnTable, turn_table};
 use op_cells::Cells;
 use op_table::Op;
-use qccd_base::{Ion, IonList, NoMemory, TrapId};
+use qccd_base::{Ion, IonList, Mode, NoMemory, TrapId};
 use qccd_machine::Machine;
 use std::alloc::Global;
 use std::marker::Model;
@@ -26,6 +26,7 @@ pub struct Program {
     machine: Machine,
     qubits: u16,
     bits: u16,
+    mode: Option<Mode>,
     start: Vec<IonList>,
     ops: Vec<Op>,
     table: TurnTable,
@@ -40,9 +41,9 @@ impl Model for Program {
 
     ghost Value = { ProgramData };
 
-    ghost view = { λ a. program_data a.machine a.qubits a.bits a.start.items a.ops.items };
+    ghost view = { λ a. program_data a.machine a.qubits a.bits a.mode a.start.items a.ops.items };
 
-    ghost invariant = { λ a. IsLegalProgram (program_data a.machine a.qubits a.bits a.start.items a.ops.items) × HasTurns a.ops.items (length a.ops.items) a.table.starts.items a.table.turns.items × Counts a.machine a.bits (firsts a.ops.items) a.table.rooms.items };
+    ghost invariant = { λ a. IsLegalProgram (program_data a.machine a.qubits a.bits a.mode a.start.items a.ops.items) × HasTurns a.ops.items (length a.ops.items) a.table.starts.items a.table.turns.items × Counts a.machine a.bits (firsts a.ops.items) a.table.rooms.items };
 }
 
 impl Program {
@@ -52,17 +53,19 @@ impl Program {
         machine: Machine,
         qubits: u16,
         bits: u16,
+        mode: Option<Mode>,
         start: Vec<IonList>,
         ops: Vec<Op>,
     ) -> Result<Program, NoMemory>
-        requires legal { IsLegalProgram (program_data machine qubits bits start.items ops.items) }
-        ensures { IfOk result (λ p. p ≡ program_data machine qubits bits start.items ops.items) }
+        requires legal { IsLegalProgram (program_data machine qubits bits mode start.items ops.items) }
+        ensures { IfOk result (λ p. p ≡ program_data machine qubits bits mode start.items ops.items) }
     {
         let table = turn_table(alloc, &machine, bits, ops.as_slice())?;
         Ok(Program {
             machine,
             qubits,
             bits,
+            mode,
             start,
             ops,
             table,
@@ -90,6 +93,14 @@ impl Program {
         ensures { result ≡ self.now.bits }
     {
         self.bits
+    }
+
+    /// The mode that the program names: of its operations none is of the other mode. Without one it may have
+    /// operations of both.
+    pub fn mode(&self) -> Option<Mode>
+        ensures { result ≡ self.now.mode }
+    {
+        self.mode
     }
 
     /// The ions of the trap before the first operation, from left to right.

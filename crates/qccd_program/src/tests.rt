@@ -131,7 +131,15 @@ fn ops(alloc: Global) -> Result<Vec<Op>, Fail>
 fn example(alloc: Global) -> Result<Program, Fail>
     ensures { IfOk result (λ p. p ≡ two_gates_and_one) }
 {
-    Ok(Program::of(alloc, two_traps(alloc)?, 4, 0, chains(alloc)?, ops(alloc)?)?)
+    Ok(Program::of(
+        alloc,
+        two_traps(alloc)?,
+        4,
+        0,
+        None,
+        chains(alloc)?,
+        ops(alloc)?,
+    )?)
 }
 
 /// The chain and the heat of a trap's cell.
@@ -232,7 +240,7 @@ fn exchanges(alloc: Global, count: u32) -> Result<Program, Fail>
         };
         ops.push(Op::of(alloc, kind)?)?;
     }
-    Ok(Program::of(alloc, two_traps(alloc)?, 4, 0, chains(alloc)?, ops)?)
+    Ok(Program::of(alloc, two_traps(alloc)?, 4, 0, None, chains(alloc)?, ops)?)
 }
 
 #[test]

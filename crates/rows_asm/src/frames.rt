@@ -34,6 +34,11 @@ const BEFORE_QUBITS: &str = "QCCD 1~qubits ";
 /// Up to the number of operations, on three ions in the first two of six traps.
 const BEFORE_OPS: &str = "QCCD 1~qubits 3~bits 2~traps 6~T0 0~T1 1 2~T2~T3~T4~T5~ops ";
 
+/// The same in programs that name their mode.
+const IN_MODE_ION: &str = "QCCD 2~mode ion~qubits 3~bits 2~traps 6~T0 0~T1 1 2~T2~T3~T4~T5~ops ";
+
+const IN_MODE_GATE: &str = "QCCD 2~mode gate~qubits 3~bits 2~traps 6~T0 0~T1 1 2~T2~T3~T4~T5~ops ";
+
 /// Behind the last chain.
 const WITHOUT_OPS: &str = "~ops 0~end~";
 
@@ -51,6 +56,8 @@ pub fn frame_of(word: &str) -> Option<Frame> {
         "single" => (BEFORE_QUBITS, WITHOUT_OPS, Task::Load(Preset::Single)),
         "six" => (BEFORE_QUBITS, WITHOUT_OPS, Task::Load(Preset::L6)),
         "line" => (BEFORE_OPS, END, Task::Load(Preset::L6)),
+        "ion" => (IN_MODE_ION, END, Task::Load(Preset::L6)),
+        "gate" => (IN_MODE_GATE, END, Task::Load(Preset::L6)),
         "grid" => (BEFORE_OPS, END, Task::Load(Preset::G2x3)),
         _ => return None,
     };

@@ -12,8 +12,9 @@
 //!   loaded on one trap of four ions, or on six traps of two in a line
 //! - `line`, `grid`: it is the number and the lines of the operations in a program with three ions in the first two
 //!   of six traps, which is loaded on six traps of two ions in a line, or in two rows
+//! - `ion`, `gate`: the same as `line`, in a program that names this mode
 //!
-//! Behind a `=` stands what was read: an operation, or the numbers of qubits and bits, each chain behind a `/` and
+//! Behind a `=` stands what was read: an operation, or the mode where it is named, the numbers of qubits and bits, each chain behind a `/` and
 //! each operation behind a `;`. Of a loaded program it is told whether it is written as the same text. Behind a `!`
 //! stands why a text was not read, with its line, or not loaded. Of parts that are refused alike the number is told,
 //! in front of an `x`. A row that begins with another word is told as it stands.

@@ -3,7 +3,7 @@
 use crate::fault::Fault;
 use loader::LoadFault;
 use op_table::Op;
-use qccd_base::{IonList, number_text};
+use qccd_base::{IonList, Mode, number_text};
 use qccd_io::{Failed, Sink, send, send_all, send_labelled};
 use transport_asm::{AsmFault, OpFault, RawProgram, write_op};
 
@@ -33,9 +33,20 @@ fn tell_ops<S: Sink>(ops: &[Op], sink: &mut S) -> Result<(), Failed> {
     Ok(())
 }
 
+/// Tells the mode, where there is one.
+fn tell_mode<S: Sink>(mode: Option<Mode>, sink: &mut S) -> Result<(), Failed> {
+    match mode {
+        None => Ok(()),
+        Some(Mode::IonSwap) => send(sink, b" mode ion"),
+        Some(Mode::GateSwap) => send(sink, b" mode gate"),
+    }
+}
+
 /// Tells what a text spells.
 pub fn tell_raw<S: Sink>(raw: &RawProgram, sink: &mut S) -> Result<(), Failed> {
-    send_labelled(sink, b" = ", raw.qubits.into())?;
+    send(sink, b" =")?;
+    tell_mode(raw.mode, sink)?;
+    send_labelled(sink, b" ", raw.qubits.into())?;
     send_labelled(sink, b" ", raw.bits.into())?;
     tell_chains(raw.chains.as_slice(), sink)?;
     tell_ops(raw.ops.as_slice(), sink)

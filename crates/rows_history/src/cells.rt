@@ -28,6 +28,7 @@ fn reordered(alloc: Global, ops: Vec<Op>, order: &[u32]) -> Result<Vec<Op>, Faul
 // The program with its operations in this order.
 fn in_this_order(alloc: Global, program: Program, order: &[u32]) -> Result<Program, Fault> {
     let (qubits, bits) = (program.qubits(), program.bits());
+    let mode = program.mode();
     let (machine, chains, ops) = program.into_parts();
     let ops = reordered(alloc, ops, order)?;
     if qubits > 256 || bits > 256 || chains.len() > 32 || ops.len() > MOST_OPS {
@@ -36,6 +37,7 @@ fn in_this_order(alloc: Global, program: Program, order: &[u32]) -> Result<Progr
     let raw = RawProgram {
         qubits,
         bits,
+        mode,
         chains,
         ops,
     };

@@ -52,7 +52,7 @@ fn exchanges(alloc: Global, count: u32) -> Result<Program, Fail>
         };
         ops.push(Op::of(alloc, kind)?)?;
     }
-    Ok(Program::of(alloc, two_traps(alloc)?, 4, 0, chains(alloc)?, ops)?)
+    Ok(Program::of(alloc, two_traps(alloc)?, 4, 0, None, chains(alloc)?, ops)?)
 }
 
 #[test]

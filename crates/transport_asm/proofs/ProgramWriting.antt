@@ -1,5 +1,5 @@
 -- A program's text in the pieces in which it is sent.
-use Rattle.std.proofs.Common.{◌≡◌, ℕ, zero, suc, ◌+◌, ◌<◌, List, [], ◌∷◌, ◌++◌, map, codes, decimal, length, take, drop, get_or, Option, Ok, Err, IsErrAnd, Result, refl, sym, ap, ◌∙◌, subst, arith, append_assoc}
+use Rattle.std.proofs.Common.{◌≡◌, ℕ, zero, suc, ◌+◌, ◌<◌, List, [], ◌∷◌, ◌++◌, map, codes, decimal, length, take, drop, get_or, Option, Some, None, Ok, Err, IsErrAnd, Result, refl, sym, ap, ◌∙◌, subst, arith, append_assoc}
 use Rattle.std.specs.Prelude.{flat_map}
 use Rattle.std.specs.List.{join_with_byte}
 use Rattle.std.proofs.lemmas.Grind.{flat_map-append}
@@ -7,6 +7,8 @@ use Rattle.std.proofs.lemmas.List.{append-nil}
 use Rattle.std.proofs.lemmas.List.Folds.{flat_map-map}
 use Rattle.qccd_base.specs.Names.{trap}
 use Rattle.qccd_base.specs.declared.names.Ion.{Ion}
+use Rattle.qccd_base.specs.declared.names.Mode.{Mode}
+use Rattle.qccd_base.specs.declared.names.Mode.TheVariants.{IonSwap, GateSwap}
 use Rattle.qccd_io.specs.Sends.{Sends}
 use Rattle.qccd_io.specs.Sink.{Behind}
 use Rattle.qccd_io.proofs.Sent.{sent_next, sent_short}
@@ -16,8 +18,8 @@ use Rattle.qccd_program.specs.Program.{ProgramData}
 use Rattle.op_text.specs.OpText.{op_text, trap_text, next_word}
 use Rattle.op_text.specs.Operations.{op_words}
 use Rattle.transport_asm.specs.Lines.{line_text, lines_text, numbered_lines}
-use Rattle.transport_asm.specs.Texts.{chain_words, op_line_words, size_words, end_words, raw_text}
-use Rattle.transport_asm.specs.ProgramText.{program_text, front_text, back_text, numbered_texts, counts_text, traps_head, ions_text, chain_text, ops_head, op_line_text}
+use Rattle.transport_asm.specs.Texts.{chain_words, op_line_words, size_words, end_words, head_lines, raw_text}
+use Rattle.transport_asm.specs.ProgramText.{program_text, front_text, back_text, numbered_texts, head_text, counts_text, traps_head, ions_text, chain_text, ops_head, op_line_text}
 use Rattle.transport_asm.proofs.Answered.{op_text-line}
 use Rattle.op_text.proofs.Sending.{join_rest}
 
@@ -99,9 +101,9 @@ op_line_is k op =
 
 -- ---- the whole text
 
-sizes_shape : (first q b t feed : List ℕ) (qubits bits traps : List ℕ) (rest : List ℕ)
-    → first ++ (((q ++ qubits) ++ feed) ++ (((b ++ bits) ++ feed) ++ (((t ++ traps) ++ feed) ++ rest))) ≡ ((((first ++ q) ++ qubits) ++ ((feed ++ b) ++ bits)) ++ (((feed ++ t) ++ traps) ++ feed)) ++ rest
-sizes_shape first q b t feed qubits bits traps rest = simp append_assoc
+sizes_shape : (head q b t feed : List ℕ) (qubits bits traps : List ℕ) (rest : List ℕ)
+    → head ++ (((q ++ qubits) ++ feed) ++ (((b ++ bits) ++ feed) ++ (((t ++ traps) ++ feed) ++ rest))) ≡ ((head ++ ((q ++ qubits) ++ ((feed ++ b) ++ bits))) ++ (((feed ++ t) ++ traps) ++ feed)) ++ rest
+sizes_shape head q b t feed qubits bits traps rest = simp append_assoc
 
 whole_shape : (a b c d e : List ℕ) → a ++ (b ++ (c ++ (d ++ e))) ≡ (a ++ b) ++ ((c ++ d) ++ e)
 whole_shape a b c d e = simp append_assoc
@@ -118,9 +120,15 @@ tail_is p =
     (flat_map-append (λ words. line_text words ++ 10 ∷ []) (numbered_lines op_line_words 0 p.ops) (end_words tt ∷ [])
     ∙ ap (λ (text : List ℕ). text ++ codes "end\n") (lines_numbered op_line_words 0 p.ops ∙ same_texts (λ k x. line_text (op_line_words k x) ++ 10 ∷ []) op_line_text op_line_is 0 p.ops))
 
+head_is : (mode : Option Mode) (lines : List (List (List ℕ))) → lines_text (head_lines mode ++ lines) ≡ head_text mode ++ lines_text lines
+head_is None lines = refl
+head_is (Some IonSwap) lines = refl
+head_is (Some GateSwap) lines = refl
+
 pub text_is : (p : ProgramData) → front_text p ++ back_text p.ops ≡ program_text p
 unfolding program_text raw_text
 text_is p = sym (
-    ap (λ (rest : List ℕ). codes "QCCD 1\n" ++ (((codes "qubits " ++ decimal p.qubits) ++ line_feed) ++ (((codes "bits " ++ decimal p.bits) ++ line_feed) ++ (((codes "traps " ++ decimal (length p.start)) ++ line_feed) ++ rest)))) (tail_is p)
-    ∙ sizes_shape (codes "QCCD 1\n") (codes "qubits ") (codes "bits ") (codes "traps ") line_feed (decimal p.qubits) (decimal p.bits) (decimal (length p.start)) (numbered_texts chain_text 0 p.start ++ (ops_head (length p.ops) ++ (numbered_texts op_line_text 0 p.ops ++ codes "end\n")))
-    ∙ whole_shape (counts_text p.qubits p.bits ++ traps_head (length p.start)) (numbered_texts chain_text 0 p.start) (ops_head (length p.ops)) (numbered_texts op_line_text 0 p.ops) (codes "end\n"))
+    head_is p.mode _
+    ∙ ap (λ (rest : List ℕ). head_text p.mode ++ (((codes "qubits " ++ decimal p.qubits) ++ line_feed) ++ (((codes "bits " ++ decimal p.bits) ++ line_feed) ++ (((codes "traps " ++ decimal (length p.start)) ++ line_feed) ++ rest)))) (tail_is p)
+    ∙ sizes_shape (head_text p.mode) (codes "qubits ") (codes "bits ") (codes "traps ") line_feed (decimal p.qubits) (decimal p.bits) (decimal (length p.start)) (numbered_texts chain_text 0 p.start ++ (ops_head (length p.ops) ++ (numbered_texts op_line_text 0 p.ops ++ codes "end\n")))
+    ∙ whole_shape (head_text p.mode ++ counts_text p.qubits p.bits ++ traps_head (length p.start)) (numbered_texts chain_text 0 p.start) (ops_head (length p.ops)) (numbered_texts op_line_text 0 p.ops) (codes "end\n"))

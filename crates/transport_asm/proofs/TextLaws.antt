@@ -1,12 +1,14 @@
 -- Program texts: what is read is the text of its value, and the text of a value is read as it.
-use Rattle.std.proofs.Common.{◌≡◌, ℕ, zero, suc, ◌+◌, ◌-◌, ◌^◌, ◌<◌, ◌≤◌, Bool, true, false, cond, not, ◌&&◌, ◌||◌, ◌==◌, ◌⊎◌, List, [], ◌∷◌, ◌++◌, map, length, drop, decimal, codes, Result, Ok, Err, refl, sym, ap, ◌∙◌, subst, arith, inl, inr, append_assoc}
+use Rattle.std.proofs.Common.{◌≡◌, ℕ, zero, suc, ◌+◌, ◌-◌, ◌^◌, ◌<◌, ◌≤◌, Bool, true, false, cond, not, ◌&&◌, ◌||◌, ◌==◌, ◌⊎◌, List, [], ◌∷◌, ◌++◌, map, length, drop, decimal, codes, Option, Some, None, Result, Ok, Err, refl, sym, ap, ◌∙◌, subst, arith, inl, inr, append_assoc}
 use Rattle.std.specs.Prelude.{bytes_eq, nat_lt}
 use Rattle.std.specs.List.{list_all, AllByRecursion, slice_split, join_with_byte, flat_map}
-use Rattle.std.proofs.lemmas.Bool.{and_parts, cases_Bool, ltb-false, le-ltb, eqb-true, ne_eqb}
+use Rattle.std.proofs.lemmas.Bool.{and_parts, cases_Bool, ltb-false, le-ltb, eqb-true, eq-eqb, ne_eqb}
 use Rattle.std.proofs.lemmas.Bool.Decides.{eqb_tells}
 use Rattle.std.proofs.lemmas.Slice.Eq.{bytes_eq-Decides}
 use Rattle.std.proofs.lemmas.Fmt.{digits_decimal, decimal_digit}
 use Rattle.qccd_base.specs.declared.names.Ion.{Ion}
+use Rattle.qccd_base.specs.declared.names.Mode.{Mode}
+use Rattle.qccd_base.specs.declared.names.Mode.TheVariants.{IonSwap, GateSwap}
 use Rattle.qccd_base.specs.Names.{ion, trap}
 use Rattle.op_table.specs.declared.kinds.OpKind.{OpKind}
 use Rattle.transport_asm.proofs.Fitting.{FitsOp, FitsIon, FitsChain, FitsRaw}
@@ -17,11 +19,11 @@ use Rattle.op_text.specs.Slots.{Slot, are_digits, number_in, is_outside, greates
 use Rattle.op_text.specs.Shapes.{Reading, Shape, first_word, read_one, one, ◌▸◌, is_end, whole, read_line}
 use Rattle.op_text.specs.Operations.{read_op, op_words}
 use Rattle.transport_asm.specs.Lines.{words_of, Unread, Refusal, refused, Steps, line_at, numbered, ended, line_text, lines_text, numbered_lines, all_of, Block, line_block, ◌▹◌, read_all}
-use Rattle.transport_asm.specs.Texts.{RawData, first_line, header_checks, size_line, where_room, ion_at, ions_at, chain_line, op_line, end_line, read_text, size_words, size, read_counted, counted, chain_words, op_line_words, version_words, end_words, program_block, raw_of, value_of, raw_text}
+use Rattle.transport_asm.specs.Texts.{RawData, first_line, header_checks, size_line, where_room, ion_at, ions_at, chain_line, op_line, end_line, read_text, size_words, size, read_counted, counted, chain_words, op_line_words, head_block, head_lines, mode_behind, mode_in, mode_line, mode_slot, mode_text, mode_words, some_mode, version_words, end_words, program_block, raw_of, value_of, raw_text}
 use Rattle.transport_asm.proofs.Numbers.{own, inside, number_takes, number_again, decimal-number_in, are_digits-decimal, is_outside-decimal, number_in-decimal}
 use Rattle.transport_asm.proofs.SlotLaws.{bind_ok, ok_is, is_plain, EachPlain, IsSlot, IsShape, one_law, both_law, plain_digits, one_passes, letter_takes, letter_again}
 use Rattle.transport_asm.proofs.OpLaws.{op_law}
-use Rattle.transport_asm.proofs.LineLaws.{IsLine, IsBlock, line_law, then_law, numbered_takes, numbered_again, numbered_plain, some_behind, EachLine, all_takes, all_again, read_is}
+use Rattle.transport_asm.proofs.LineLaws.{IsLine, IsBlock, line_again, line_law, then_law, numbered_takes, numbered_again, numbered_plain, some_behind, EachLine, all_takes, all_again, read_is}
 
 -- ---- a line that is a shape and nothing more
 
@@ -121,40 +123,147 @@ size_line_law name many plain small =
 end_law : IsLine end_line (λ u. codes "end" ∷ []) stated_fits
 end_law = shape_line (one (fixed_slot (codes "end"))) stated_fits (one_law (fixed_slot (codes "end")) stated_fits (fixed_law (codes "end") refl)) (λ u. omega arith)
 
+not_false : (t : Bool) → not t ≡ false → t ≡ true
+not_false true e = refl
+not_false false e = absurd cc
+
 -- ---- the first line
 
-one_is : decimal 1 ≡ codes "1"
-one_is = decimal_digit 1 (omega arith)
+abbrev IsVersion : ℕ → Type 0
+IsVersion v = (v ≡ 1) ⊎ (v ≡ 2)
 
-first_takes : (ws : List (List ℕ)) (v : ℕ) → first_line ws ≡ Ok v → (ws ≡ codes "QCCD" ∷ codes "1" ∷ []) × (v ≡ 1)
+first_takes : (ws : List (List ℕ)) (v : ℕ) → first_line ws ≡ Ok v → (ws ≡ version_words (decimal v)) × IsVersion v
 first_takes [] v e = absurd cc
 first_takes (name ∷ []) v e = absurd cc
 first_takes (name ∷ version ∷ more ∷ words) v e = absurd cc
 first_takes (name ∷ version ∷ []) v e =
     let passed = three_pass _ _ _ Header Number NotBuilt (number_in version) v e in
     let form = both_true (bytes_eq name (codes "QCCD")) (are_digits version) passed.0 in
-    let one : number_in version ≡ 1 = eqb-true _ _ (not_false (number_in version == 1) passed.2) in
+    let known : IsVersion (number_in version) = either (number_in version) (not_false _ passed.2) in
     let both = decimal-number_in greatest version (omega arith) form.1 passed.1 in
     let first : name ≡ codes "QCCD" = (bytes_eq-Decides name (codes "QCCD")).0 form.0 in
-    let second : version ≡ codes "1" = both.0 ∙ ap decimal one ∙ one_is in
-    (ap (λ (n : List ℕ). n ∷ version ∷ []) first ∙ ap (λ (n : List ℕ). codes "QCCD" ∷ n ∷ []) second, sym passed.3 ∙ one)
+    let second : version ≡ decimal v = both.0 ∙ ap decimal passed.3 in
+    (ap (λ (n : List ℕ). n ∷ version ∷ []) first ∙ ap (λ (n : List ℕ). codes "QCCD" ∷ n ∷ []) second, subst IsVersion passed.3 known)
   where
     both_true : (a b : Bool) → not (a && b) ≡ false → (a ≡ true) × (b ≡ true)
     both_true true true e = (refl, refl)
     both_true true false e = absurd cc
     both_true false b e = absurd cc
 
-    not_false : (t : Bool) → not t ≡ false → t ≡ true
-    not_false true e = refl
-    not_false false e = absurd cc
+    by : (n : ℕ) (a b : Bool) → (n == 1) ≡ a → (n == 2) ≡ b → (a || b) ≡ true → IsVersion n
+    by n true b is_one is_two some = inl (eqb-true n 1 is_one)
+    by n false true is_one is_two some = inr (eqb-true n 2 is_two)
+    by n false false is_one is_two some = absurd cc
 
-first_law : IsLine first_line (λ v. codes "QCCD" ∷ codes "1" ∷ []) (λ v. v ≡ 1)
+    either : (n : ℕ) → (n == 1 || n == 2) ≡ true → IsVersion n
+    either n some = by n (n == 1) (n == 2) refl refl some
+
+one_is : decimal 1 ≡ codes "1"
+one_is = decimal_digit 1 (omega arith)
+
+two_is : decimal 2 ≡ codes "2"
+two_is = decimal_digit 2 (omega arith)
+
+first_law : IsLine first_line (λ v. version_words (decimal v)) IsVersion
 first_law = record {
   takes = first_takes;
-  again = λ v is. ap (λ (k : ℕ). Ok k) (sym is);
-  plain = λ v is. (refl, (refl, tt));
+  again = again;
+  plain = plain;
   some = λ v. omega arith;
 }
+  where
+    again : (v : ℕ) → IsVersion v → first_line (version_words (decimal v)) ≡ Ok v
+    again v (inl is) = ap (λ (k : ℕ). first_line (version_words (decimal k))) is ∙ ap (λ (n : List ℕ). first_line (version_words n)) one_is ∙ ap (λ (k : ℕ). Ok k) (sym is)
+    again v (inr is) = ap (λ (k : ℕ). first_line (version_words (decimal k))) is ∙ ap (λ (n : List ℕ). first_line (version_words n)) two_is ∙ ap (λ (k : ℕ). Ok k) (sym is)
+
+    plain : (v : ℕ) → IsVersion v → EachPlain (version_words (decimal v))
+    plain v (inl is) = subst (λ (n : List ℕ). EachPlain (version_words n)) (sym (ap decimal is ∙ one_is)) (refl, (refl, tt))
+    plain v (inr is) = subst (λ (n : List ℕ). EachPlain (version_words n)) (sym (ap decimal is ∙ two_is)) (refl, (refl, tt))
+
+-- ---- the line of the mode
+
+abbrev any_mode : Mode → Type 0
+any_mode mode = Unit {0}
+
+mode_text_of : (word : List ℕ) (i g : Bool) → bytes_eq word (codes "ion") ≡ i → bytes_eq word (codes "gate") ≡ g → not (i || g) ≡ false → word ≡ mode_text (mode_in word)
+mode_text_of word true g is_ion is_gate some = rw is_ion ((bytes_eq-Decides word (codes "ion")).0 is_ion)
+mode_text_of word false true is_ion is_gate some = rw is_ion ((bytes_eq-Decides word (codes "gate")).0 is_gate)
+mode_text_of word false false is_ion is_gate some = absurd cc
+
+mode_slot_law : IsSlot mode_slot any_mode
+mode_slot_law = record {
+  takes = λ word value e.
+      let passed = one_passes _ Word (mode_in word) value e in
+      (mode_text_of word _ _ refl refl passed.0 ∙ ap mode_text passed.1, tt);
+  again = λ value fits. again value;
+  plain = λ value fits. plain value;
+}
+  where
+    again : (mode : Mode) → mode_slot.read (mode_text mode) ≡ Ok mode
+    again IonSwap = refl
+    again GateSwap = refl
+
+    plain : (mode : Mode) → is_plain (mode_text mode) ≡ true
+    plain IonSwap = refl
+    plain GateSwap = refl
+
+mode_law : IsLine mode_line mode_words any_mode
+mode_law =
+    let shape = both_law (one (fixed_slot (codes "mode"))) (one mode_slot) stated_fits any_mode (one_law (fixed_slot (codes "mode")) stated_fits (fixed_law (codes "mode") refl)) (one_law mode_slot any_mode mode_slot_law) in
+    let line = shape_line (one (fixed_slot (codes "mode")) ▸ one mode_slot) (λ v. stated_fits v.0 × any_mode v.1) shape (λ v. omega arith) in
+    record {
+      takes = λ ws mode e.
+          let b = bind_ok (read_line (one (fixed_slot (codes "mode")) ▸ one mode_slot) ws) (λ v. Ok v.1) mode e in
+          let t = line.takes ws b.0 b.1 in
+          subst (λ (k : Mode). (ws ≡ mode_words k) × any_mode k) (ok_is b.0.1 mode b.2) (t.0, t.1.1);
+      again = λ mode fits. rw (line.again (tt, mode) (tt, fits)) refl;
+      plain = λ mode fits. line.plain (tt, mode) (tt, fits);
+      some = λ mode. omega arith;
+    }
+
+-- ---- both
+
+abbrev any_head : Option Mode → Type 0
+any_head mode = Unit {0}
+
+head_takes : (left : Unread) (mode : Option Mode) (next : Unread) → head_block.read left ≡ Ok (mode, next) → (left.parts ≡ map line_text (head_lines mode) ++ next.parts) × any_head mode
+head_takes left mode next e =
+    let a = bind_ok (line_at first_line left) mode_behind (mode, next) e in
+    let t = (line_law first_line (λ v. version_words (decimal v)) IsVersion first_law).takes left a.0.0 a.0.1 a.1 in
+    (by a.0.0 a.0.1 t.0 t.1 a.2, tt)
+  where
+    by : (v : ℕ) (behind : Unread) → left.parts ≡ line_text (version_words (decimal v)) ∷ behind.parts → IsVersion v → mode_behind (v, behind) ≡ Ok (mode, next) → left.parts ≡ map line_text (head_lines mode) ++ next.parts
+    by v behind front (inl is) e =
+        let pair = read_is (None, behind) (mode, next) (sym (ap (λ (k : ℕ). mode_behind (k, behind)) is) ∙ e) in
+        front ∙ ap (λ (k : ℕ). line_text (version_words (decimal k)) ∷ behind.parts) is ∙ ap (λ (n : List ℕ). line_text (version_words n) ∷ behind.parts) one_is
+        ∙ ap (λ (p : Option Mode × Unread). map line_text (head_lines p.0) ++ p.1.parts) pair
+    by v behind front (inr is) e =
+        let b = bind_ok (line_at mode_line behind) (λ m. Ok (Some m.0, m.1)) (mode, next) (sym (ap (λ (k : ℕ). mode_behind (k, behind)) is) ∙ e) in
+        let u = (line_law mode_line mode_words any_mode mode_law).takes behind b.0.0 b.0.1 b.1 in
+        let pair = read_is (Some b.0.0, b.0.1) (mode, next) b.2 in
+        front ∙ ap (λ (k : ℕ). line_text (version_words (decimal k)) ∷ behind.parts) is ∙ ap (λ (n : List ℕ). line_text (version_words n) ∷ behind.parts) two_is
+        ∙ ap (λ (ps : List (List ℕ)). line_text (version_words (codes "2")) ∷ ps) u.0 ∙ ap (λ (p : Option Mode × Unread). map line_text (head_lines p.0) ++ p.1.parts) pair
+
+head_again : (k : ℕ) (parts : List (List ℕ)) (mode : Option Mode) → 0 < length parts → any_head mode
+    → (j : ℕ) × (head_block.read (record { number = k; parts = map line_text (head_lines mode) ++ parts }) ≡ Ok (mode, record { number = j; parts = parts }))
+head_again k parts None some fits =
+    let first = subst (λ (n : List ℕ). line_at first_line (record { number = k; parts = line_text (version_words n) ∷ parts }) ≡ Ok (1, record { number = k + 1; parts = parts })) one_is
+    (line_again first_line (λ v. version_words (decimal v)) IsVersion first_law k parts 1 some (inl refl)) in
+    (k + 1, rw first refl)
+head_again k parts (Some mode) some fits =
+    let second = line_again mode_line mode_words any_mode mode_law (k + 1) parts mode some tt in
+    (k + 1 + 1, rw second refl)
+
+head_law : IsBlock head_block any_head
+head_law = record {
+  takes = head_takes;
+  again = head_again;
+  plain = plain;
+}
+  where
+    plain : (mode : Option Mode) → any_head mode → EachLine (head_lines mode)
+    plain None fits = (subst (λ (n : List ℕ). EachPlain (version_words n)) one_is (first_law.plain 1 (inl refl)), tt)
+    plain (Some mode) fits = (subst (λ (n : List ℕ). EachPlain (version_words n)) two_is (first_law.plain 2 (inr refl)), (mode_law.plain mode tt, tt))
 
 -- ---- chains
 
@@ -270,12 +379,11 @@ counted_law {A} name many read words Fits plain small law =
 
 -- ---- the whole text
 
-abbrev BlockFits : ℕ × (ℕ × (ℕ × (List (List Ion) × (List OpKind × Unit {0})))) → Type 0
-BlockFits v = (v.0 ≡ 1) × ((v.1.0 ≤ 256) × ((v.1.1.0 ≤ 256) × (((length v.1.1.1.0 ≤ 32) × AllByRecursion FitsChain v.1.1.1.0) × (((length v.1.1.1.1.0 ≤ 4194304) × AllByRecursion FitsOp v.1.1.1.1.0) × stated_fits v.1.1.1.1.1))))
+abbrev BlockFits : Option Mode × (ℕ × (ℕ × (List (List Ion) × (List OpKind × Unit {0})))) → Type 0
+BlockFits v = any_head v.0 × ((v.1.0 ≤ 256) × ((v.1.1.0 ≤ 256) × (((length v.1.1.1.0 ≤ 32) × AllByRecursion FitsChain v.1.1.1.0) × (((length v.1.1.1.1.0 ≤ 4194304) × AllByRecursion FitsOp v.1.1.1.1.0) × stated_fits v.1.1.1.1.1))))
 
 program_law : IsBlock program_block BlockFits
 program_law =
-    let version = line_law first_line version_words (λ v. v ≡ 1) first_law in
     let qubits = line_law (size_line (codes "qubits") 256) (size_words (codes "qubits")) (λ n. n ≤ 256) (size_line_law (codes "qubits") 256 refl (omega arith)) in
     let bits = line_law (size_line (codes "bits") 256) (size_words (codes "bits")) (λ n. n ≤ 256) (size_line_law (codes "bits") 256 refl (omega arith)) in
     let chains = counted_law (codes "traps") 32 chain_line chain_words FitsChain refl (omega arith) (λ t below. chain_law t (omega arith)) in
@@ -285,14 +393,14 @@ program_law =
     let from_chains = then_law (counted (codes "traps") 32 chain_line chain_words) (λ chains. counted (codes "ops") 4194304 op_line op_line_words ▹ λ ops. line_block end_line end_words) (λ cs. (length cs ≤ 32) × AllByRecursion FitsChain cs) (λ cs v. ((length v.0 ≤ 4194304) × AllByRecursion FitsOp v.0) × stated_fits v.1) chains (λ v f. from_ops) in
     let from_bits = then_law (size (codes "bits") 256) (λ bits. counted (codes "traps") 32 chain_line chain_words ▹ λ chains. counted (codes "ops") 4194304 op_line op_line_words ▹ λ ops. line_block end_line end_words) (λ n. n ≤ 256) (λ n v. ((length v.0 ≤ 32) × AllByRecursion FitsChain v.0) × (((length v.1.0 ≤ 4194304) × AllByRecursion FitsOp v.1.0) × stated_fits v.1.1)) bits (λ v f. from_chains) in
     let from_qubits = then_law (size (codes "qubits") 256) (λ qubits. size (codes "bits") 256 ▹ λ bits. counted (codes "traps") 32 chain_line chain_words ▹ λ chains. counted (codes "ops") 4194304 op_line op_line_words ▹ λ ops. line_block end_line end_words) (λ n. n ≤ 256) (λ n v. (v.0 ≤ 256) × (((length v.1.0 ≤ 32) × AllByRecursion FitsChain v.1.0) × (((length v.1.1.0 ≤ 4194304) × AllByRecursion FitsOp v.1.1.0) × stated_fits v.1.1.1))) qubits (λ v f. from_bits) in
-    then_law (line_block first_line version_words) (λ version. size (codes "qubits") 256 ▹ λ qubits. size (codes "bits") 256 ▹ λ bits. counted (codes "traps") 32 chain_line chain_words ▹ λ chains. counted (codes "ops") 4194304 op_line op_line_words ▹ λ ops. line_block end_line end_words) (λ v. v ≡ 1)
-    (λ n v. (v.0 ≤ 256) × ((v.1.0 ≤ 256) × (((length v.1.1.0 ≤ 32) × AllByRecursion FitsChain v.1.1.0) × (((length v.1.1.1.0 ≤ 4194304) × AllByRecursion FitsOp v.1.1.1.0) × stated_fits v.1.1.1.1)))) version (λ v f. from_qubits)
+    then_law head_block (λ mode. size (codes "qubits") 256 ▹ λ qubits. size (codes "bits") 256 ▹ λ bits. counted (codes "traps") 32 chain_line chain_words ▹ λ chains. counted (codes "ops") 4194304 op_line op_line_words ▹ λ ops. line_block end_line end_words) any_head
+    (λ n v. (v.0 ≤ 256) × ((v.1.0 ≤ 256) × (((length v.1.1.0 ≤ 32) × AllByRecursion FitsChain v.1.1.0) × (((length v.1.1.1.0 ≤ 4194304) × AllByRecursion FitsOp v.1.1.1.0) × stated_fits v.1.1.1.1)))) head_law (λ v f. from_qubits)
 
 -- the text of a raw program is read as it
 pub text_again : (raw : RawData) → FitsRaw raw → read_text (raw_text raw) ≡ Ok raw
 unfolding read_text raw_text
 text_again raw fits =
-    let e = all_again program_block (BlockFits) (program_law) (value_of raw) (refl, (fits.qubits, (fits.bits, ((fits.traps, fits.chains), ((fits.few_ops, fits.ops), tt))))) in
+    let e = all_again program_block (BlockFits) (program_law) (value_of raw) (tt, (fits.qubits, (fits.bits, ((fits.traps, fits.chains), ((fits.few_ops, fits.ops), tt))))) in
     rw e refl
 
 -- and what is read is the text of its value
@@ -302,4 +410,4 @@ text_takes text raw e =
     let b = bind_ok (read_all program_block text) (λ v. Ok (raw_of v)) raw e in
     let t = all_takes program_block (BlockFits) (program_law) text b.0 b.1 in
     let fits : FitsRaw (raw_of b.0) = record { qubits = t.1.1.0; bits = t.1.1.1.0; traps = t.1.1.1.1.0.0; chains = t.1.1.1.1.0.1; few_ops = t.1.1.1.1.1.0.0; ops = t.1.1.1.1.1.0.1 } in
-    subst (λ (r : RawData). (text ≡ lines_text (program_block.lines (value_of r))) × FitsRaw r) (read_is (raw_of b.0) raw b.2) (t.0 ∙ ap (λ (k : ℕ). lines_text (program_block.lines (k, b.0.1))) t.1.0, fits)
+    subst (λ (r : RawData). (text ≡ lines_text (program_block.lines (value_of r))) × FitsRaw r) (read_is (raw_of b.0) raw b.2) (t.0, fits)

@@ -1,8 +1,9 @@
 -- Texts that the worked examples speak of.
-use Rattle.std.specs.Prelude.{ℕ, List, [], ◌∷◌, ◌++◌, codes, flat_map}
+use Rattle.std.specs.Prelude.{ℕ, List, [], ◌∷◌, ◌++◌, Option, None, codes, flat_map}
 use Rattle.qccd_base.specs.Line.{line}
 use Rattle.qccd_base.specs.Names.{ion, trap, segment}
 use Rattle.qccd_base.specs.declared.names.End.TheVariants.{Left, Right}
+use Rattle.qccd_base.specs.declared.names.Mode.{Mode}
 use Rattle.qccd_circuit.specs.Example.{cx_on, h_on}
 use Rattle.qccd_circuit.specs.Item.{ItemData}
 use Rattle.op_table.specs.declared.kinds.OpKind.{OpKind}
@@ -34,7 +35,7 @@ eight_ops =
     ∷ Move (segment 0) ∷ Merge (segment 0) (trap 1) Left ∷ Item 2 (trap 1) (cx_on 0 3) (0 ∷ 1 ∷ []) ∷ []
 
 abbrev pub compiled_raw : RawData
-compiled_raw = record { qubits = 4; bits = 0; chains = (ion 0 ∷ ion 1 ∷ ion 2 ∷ []) ∷ (ion 3 ∷ []) ∷ [] ∷ [] ∷ [] ∷ [] ∷ []; ops = eight_ops }
+compiled_raw = record { qubits = 4; bits = 0; mode = None; chains = (ion 0 ∷ ion 1 ∷ ion 2 ∷ []) ∷ (ion 3 ∷ []) ∷ [] ∷ [] ∷ [] ∷ [] ∷ []; ops = eight_ops }
 
 -- the text up to within its fifteenth line
 unfoldable pub cut : List ℕ
@@ -53,3 +54,10 @@ without_end = text_of (head (codes "ops 8") ++ eight)
 
 unfoldable pub following : List ℕ
 following = text_of (head (codes "ops 8") ++ eight ++ codes "end" ∷ codes "end" ∷ [])
+
+-- a text of these first lines for one ion in one trap and no operation, and what it spells
+unfoldable pub with_head : List (List ℕ) → List ℕ
+with_head first = text_of (first ++ codes "qubits 1" ∷ codes "bits 0" ∷ codes "traps 1" ∷ codes "T0 0" ∷ codes "ops 0" ∷ codes "end" ∷ [])
+
+abbrev pub one_ion : Option Mode → RawData
+one_ion mode = record { qubits = 1; bits = 0; mode = mode; chains = (ion 0 ∷ []) ∷ []; ops = [] }

@@ -42,4 +42,4 @@ ion_next few words = first_word words >>= λ word. ion_at few word.0 >>= λ ion.
 
 -- a program that was read
 abbrev pub raw_data : RawProgram → RawData
-raw_data raw = record { qubits = raw.qubits; bits = raw.bits; chains = raw.chains.items; ops = raw.ops.items }
+raw_data raw = record { qubits = raw.qubits; bits = raw.bits; mode = raw.mode; chains = raw.chains.items; ops = raw.ops.items }

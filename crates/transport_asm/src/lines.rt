@@ -7,11 +7,12 @@ ghost use Rattle.transport_asm.specs.Cursor.{Gives};
 ghost use Rattle.transport_asm.specs.LineCursor.{parts_of, unread, next_of, GivesAt, IsNumbered};
 ghost use Rattle.transport_asm.specs.Lines.{words_of, next_line, line_at, ended};
 ghost use Rattle.op_text.specs.Slots.{greatest, next_slot, size_slot};
-ghost use Rattle.transport_asm.specs.Texts.{size_line, first_line, end_line};
+ghost use Rattle.transport_asm.specs.Texts.{size_line, first_line, mode_line, mode_slot, head_block, end_line};
 
 use crate::faults::AsmFault;
 use crate::words::{are_digits, cut, is, is_end, number, place_of, word};
 use op_text::AsmKind;
+use qccd_base::Mode;
 
 /// What is left of a text: the number of its next line, and the bytes from there on.
 #[derive(Clone, Copy)]
@@ -115,9 +116,9 @@ pub fn size_at<'a>(name: &[u8], many: u64, lines: Lines<'a>) -> Result<(u64, Lin
     }
 }
 
-// The first line, of version 1.
-fn first(line: &[u8]) -> Result<(), AsmKind>
-    ensures { Gives (λ u. 1) result (first_line (words_of line.now)) }
+// The first line: its version.
+fn first(line: &[u8]) -> Result<u64, AsmKind>
+    ensures { Gives (λ n. n) result (first_line (words_of line.now)) }
 {
     let (name, rest) = cut(line);
     let Some(rest) = rest else {
@@ -128,23 +129,84 @@ fn first(line: &[u8]) -> Result<(), AsmKind>
         return Err(AsmKind::Header);
     }
     let n = number(version, 4294967295)?;
-    if n == 1 {
-        Ok(())
+    if n == 1 || n == 2 {
+        Ok(n)
     } else {
         Err(AsmKind::NotBuilt)
     }
 }
 
 /// The first line, and what is left behind it.
-pub fn first_at(lines: Lines<'_>) -> Result<Lines<'_>, AsmFault>
+fn first_at(lines: Lines<'_>) -> Result<(u64, Lines<'_>), AsmFault>
     requires { IsNumbered lines }
-    ensures exact { GivesAt (λ x. (1, unread x)) result (line_at first_line (unread lines.entry)) }
-    ensures numbered { IfOk result (λ x. IsNumbered x) }
+    ensures exact { GivesAt (λ x. (x.0, unread x.1)) result (line_at first_line (unread lines.entry)) }
+    ensures numbered { IfOk result (λ x. IsNumbered x.1) }
 {
     let (line, rest) = take_line(lines)?;
     match first(line) {
-        Ok(()) => Ok(rest),
+        Ok(version) => Ok((version, rest)),
         Err(kind) => Err(refused(lines.number, kind)),
+    }
+}
+
+// The word of a mode.
+fn mode_in(word: &[u8]) -> Result<Mode, AsmKind>
+    ensures { Gives (λ mode. mode) result (mode_slot.read word.now) }
+{
+    if is(word, b"ion") {
+        Ok(Mode::IonSwap)
+    } else if is(word, b"gate") {
+        Ok(Mode::GateSwap)
+    } else {
+        Err(AsmKind::Word)
+    }
+}
+
+// The line of a mode.
+fn mode(line: &[u8]) -> Result<Mode, AsmKind>
+    ensures { Gives (λ mode. mode) result (mode_line (words_of line.now)) }
+{
+    let (name, rest) = cut(line);
+    if !is(name, b"mode") {
+        return Err(AsmKind::Word);
+    }
+    let Some(rest) = rest else {
+        return Err(AsmKind::Word);
+    };
+    let (word, rest) = cut(rest);
+    let mode = mode_in(word)?;
+    if is_end(rest) {
+        Ok(mode)
+    } else {
+        Err(AsmKind::Word)
+    }
+}
+
+// The line of a mode, and what is left behind it.
+fn mode_at(lines: Lines<'_>) -> Result<(Mode, Lines<'_>), AsmFault>
+    requires { IsNumbered lines }
+    ensures exact { GivesAt (λ x. (x.0, unread x.1)) result (line_at mode_line (unread lines.entry)) }
+    ensures numbered { IfOk result (λ x. IsNumbered x.1) }
+{
+    let (line, rest) = take_line(lines)?;
+    match mode(line) {
+        Ok(mode) => Ok((mode, rest)),
+        Err(kind) => Err(refused(lines.number, kind)),
+    }
+}
+
+/// The version, and in the second the mode, and what is left behind them.
+pub fn head_at(lines: Lines<'_>) -> Result<(Option<Mode>, Lines<'_>), AsmFault>
+    requires { IsNumbered lines }
+    ensures exact { GivesAt (λ x. (x.0, unread x.1)) result (head_block.read (unread lines.entry)) }
+    ensures numbered { IfOk result (λ x. IsNumbered x.1) }
+{
+    let (version, rest) = first_at(lines)?;
+    if version == 2 {
+        let (mode, rest) = mode_at(rest)?;
+        Ok((Some(mode), rest))
+    } else {
+        Ok((None, rest))
     }
 }
 

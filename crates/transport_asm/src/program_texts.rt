@@ -3,18 +3,29 @@
 ghost use Rattle.std.specs.Prelude.{◌≡◌, ◌++◌, ℕ, codes, decimal, flat_map, length};
 ghost use Rattle.qccd_io.specs.Sends.{Sends};
 ghost use Rattle.op_text.specs.OpText.{next_word};
-ghost use Rattle.transport_asm.specs.ProgramText.{program_text, counts_text, traps_head, ions_text, chain_text, ops_head, op_line_text, numbered_texts, front_text, back_text};
+ghost use Rattle.transport_asm.specs.ProgramText.{program_text, counts_text, head_text, traps_head, ions_text, chain_text, ops_head, op_line_text, numbered_texts, front_text, back_text};
 
 use op_table::Op;
 use op_text::{put_op, write_op};
-use qccd_base::{Ion, TrapId};
+use qccd_base::{Ion, Mode, TrapId};
 use qccd_io::{Failed, Piece, Sink, send, send_labelled};
 use qccd_program::Program;
 
-fn send_qubit_count<S: Sink>(sink: &mut S, qubits: u16) -> Result<(), Failed>
-    ensures { Sends S.taken S.faults S.behind sink.old sink.new result (codes "QCCD 1\nqubits " ++ decimal qubits) }
+// The first line, and that of the mode where there is one.
+fn send_head<S: Sink>(sink: &mut S, mode: Option<Mode>) -> Result<(), Failed>
+    ensures { Sends S.taken S.faults S.behind sink.old sink.new result (head_text mode) }
 {
-    send_labelled(sink, b"QCCD 1\nqubits ", u64::from(qubits))
+    match mode {
+        None => send(sink, b"QCCD 1\n"),
+        Some(Mode::IonSwap) => send(sink, b"QCCD 2\nmode ion\n"),
+        Some(Mode::GateSwap) => send(sink, b"QCCD 2\nmode gate\n"),
+    }
+}
+
+fn send_qubit_count<S: Sink>(sink: &mut S, qubits: u16) -> Result<(), Failed>
+    ensures { Sends S.taken S.faults S.behind sink.old sink.new result (codes "qubits " ++ decimal qubits) }
+{
+    send_labelled(sink, b"qubits ", u64::from(qubits))
 }
 
 fn send_bit_count<S: Sink>(sink: &mut S, bits: u16) -> Result<(), Failed>
@@ -23,7 +34,7 @@ fn send_bit_count<S: Sink>(sink: &mut S, bits: u16) -> Result<(), Failed>
     send_labelled(sink, b"\nbits ", u64::from(bits))
 }
 
-// The first line, and the numbers of qubits and bits.
+// The numbers of qubits and bits.
 fn send_counts<S: Sink>(sink: &mut S, qubits: u16, bits: u16) -> Result<(), Failed>
     ensures { Sends S.taken S.faults S.behind sink.old sink.new result (counts_text qubits bits) }
 {
@@ -144,6 +155,7 @@ fn send_front<S: Sink>(sink: &mut S, program: &Program) -> Result<(), Failed>
     ensures { Sends S.taken S.faults S.behind sink.old sink.new result (front_text program.now) }
 {
     let _ops = program.ops();
+    send_head(sink, program.mode())?;
     send_counts(sink, program.qubits(), program.bits())?;
     send_traps_head(sink, program.machine().traps())?;
     send_chains(sink, program)

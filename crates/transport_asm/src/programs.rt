@@ -8,21 +8,23 @@ ghost use Rattle.transport_asm.specs.Texts.{op_line, chain_line, read_counted, p
 
 use crate::chains::chains_at;
 use crate::faults::{AsmFault, OpFault};
-use crate::lines::{Lines, end_at, ended, first_at, next_number, refused, size_at, take_line};
+use crate::lines::{Lines, end_at, ended, head_at, next_number, refused, size_at, take_line};
 use crate::ops::op_of;
 use crate::words::word;
 use op_table::{Op, OpShelf};
-use qccd_base::IonList;
+use qccd_base::{IonList, Mode};
 use std::alloc::Global;
 
-/// What a program text spells: the numbers of qubits and bits, the chains at the start and the
-/// operations. Nothing more is known of them than that they have texts.
+/// What a program text spells: the numbers of qubits and bits, the mode where it names one, the chains at the
+/// start and the operations. Nothing more is known of them than that they have texts.
 #[derive(Debug, Drop)]
 pub struct RawProgram {
     /// How many qubits.
     pub qubits: u16,
     /// How many classical bits.
     pub bits: u16,
+    /// The mode that it names.
+    pub mode: Option<Mode>,
     /// The ions of each trap at the start, from left to right.
     pub chains: Vec<IonList>,
     /// The operations, in order.
@@ -99,7 +101,7 @@ fn raw_at(alloc: Global, lines: Lines<'_>) -> Result<(RawProgram, Lines<'_>), As
     requires { IsNumbered lines }
     ensures { GivesAt (λ x. (value_of (raw_data x.0), unread x.1)) result (program_block.read (unread lines.entry)) }
 {
-    let rest = first_at(lines)?;
+    let (mode, rest) = head_at(lines)?;
     let (qubits, rest) = size_at(b"qubits", 256, rest)?;
     let (bits, rest) = size_at(b"bits", 256, rest)?;
     let (chains, rest) = all_chains(alloc, rest)?;
@@ -109,6 +111,7 @@ fn raw_at(alloc: Global, lines: Lines<'_>) -> Result<(RawProgram, Lines<'_>), As
         RawProgram {
             qubits: qubits as u16,
             bits: bits as u16,
+            mode,
             chains,
             ops,
         },

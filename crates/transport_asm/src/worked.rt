@@ -1,8 +1,9 @@
 //! Worked examples over the definitions, each a function whose contract is the fact.
 
-ghost use Rattle.std.specs.Prelude.{◌≡◌, [], ◌∷◌, codes, Ok, Err};
+ghost use Rattle.std.specs.Prelude.{◌≡◌, [], ◌∷◌, codes, None, Some, Ok, Err};
 ghost use Rattle.qccd_base.specs.Names.{qubit, trap, segment, junction};
 ghost use Rattle.qccd_base.specs.declared.names.End.TheVariants.{Left, Right};
+ghost use Rattle.qccd_base.specs.declared.names.Mode.TheVariants.{GateSwap, IonSwap};
 ghost use Rattle.qccd_circuit.specs.Example.{barrier_over, cx_on, h_on, measure_into, reset_of};
 ghost use Rattle.op_table.specs.declared.kinds.OpKind.TheVariants.{Split, Move, Enter, Leave, Merge, Rot, GSwap, Item, Fence};
 ghost use Rattle.op_text.specs.declared.kind.AsmKind.TheVariants.{Header, Word, Number, Count, NotBuilt, TooMany};
@@ -10,7 +11,7 @@ ghost use Rattle.transport_asm.specs.Lines.{words_of, refused};
 ghost use Rattle.op_text.specs.Example.{turned};
 ghost use Rattle.op_text.specs.Operations.{read_op};
 ghost use Rattle.transport_asm.specs.Texts.{Spells, IsRefusedAt, raw_text};
-ghost use Rattle.transport_asm.specs.Example.{compiled, compiled_raw, cut, counted, of_version, without_end, following};
+ghost use Rattle.transport_asm.specs.Example.{compiled, compiled_raw, cut, counted, of_version, one_ion, with_head, without_end, following};
 
 /// A program of eight operations on six traps, read and written.
 pub fn eight_operations()
@@ -21,7 +22,7 @@ pub fn eight_operations()
 /// Texts that are refused, each at its line.
 pub fn refused_texts()
     ensures empty { IsRefusedAt [] (refused 1 Count) }
-    ensures version { IsRefusedAt (of_version (codes "QCCD 2")) (refused 1 NotBuilt) }
+    ensures version { IsRefusedAt (of_version (codes "QCCD 3")) (refused 1 NotBuilt) }
     ensures wide { IsRefusedAt (of_version (codes "QCCD 4294967296")) (refused 1 Number) }
     ensures led { IsRefusedAt (of_version (codes "QCCD 01")) (refused 1 Number) }
     ensures trailing { IsRefusedAt (of_version (codes "QCCD 1 ")) (refused 1 Header) }
@@ -35,6 +36,22 @@ pub fn refused_texts()
     ensures cut { IsRefusedAt cut (refused 15 Count) }
     ensures no_end { IsRefusedAt without_end (refused 20 Count) }
     ensures behind { IsRefusedAt following (refused 21 Count) }
+{}
+
+/// The first lines of texts that name their mode, and of those that don't.
+pub fn modes()
+    ensures ion { Spells (with_head (codes "QCCD 2" ∷ codes "mode ion" ∷ [])) (one_ion (Some IonSwap)) }
+    ensures gate { Spells (with_head (codes "QCCD 2" ∷ codes "mode gate" ∷ [])) (one_ion (Some GateSwap)) }
+    ensures none { Spells (with_head (codes "QCCD 1" ∷ [])) (one_ion None) }
+    ensures written { raw_text (one_ion (Some GateSwap)) ≡ with_head (codes "QCCD 2" ∷ codes "mode gate" ∷ []) }
+    ensures lacking { IsRefusedAt (with_head (codes "QCCD 2" ∷ [])) (refused 2 Word) }
+    ensures of_another { IsRefusedAt (with_head (codes "QCCD 2" ∷ codes "mode Ion" ∷ [])) (refused 2 Word) }
+    ensures of_none { IsRefusedAt (with_head (codes "QCCD 2" ∷ codes "mode" ∷ [])) (refused 2 Word) }
+    ensures of_two { IsRefusedAt (with_head (codes "QCCD 2" ∷ codes "mode ion gate" ∷ [])) (refused 2 Word) }
+    ensures in_the_first { IsRefusedAt (with_head (codes "QCCD 1" ∷ codes "mode ion" ∷ [])) (refused 2 Word) }
+    ensures led { IsRefusedAt (with_head (codes "QCCD 02" ∷ codes "mode ion" ∷ [])) (refused 1 Number) }
+    ensures trailing { IsRefusedAt (with_head (codes "QCCD 2 " ∷ codes "mode ion" ∷ [])) (refused 1 Header) }
+    ensures behind { IsRefusedAt (with_head (codes "QCCD 2" ∷ codes "mode ion" ∷ codes "mode ion" ∷ [])) (refused 3 Word) }
 {}
 
 /// Operations that are read.

@@ -16,13 +16,13 @@ returns-in_err-start-clause-told c =
     let m = c.args.machine.now in
     let raw = raw_data c.args.raw.now in
     let p = err_from_is_err_and c.from_residual.result c.from_residual.ensures.1 in
-    rw (p.1, p.2) (told_or c.in_err-start.field-0.0 (start_refusal m raw.qubits raw.chains) (first_fault m (opening raw.qubits raw.bits raw.chains) [] 0 raw.ops) (rw c.as_slice-chains.ensures.value at c.in_err-start.ensures))
+    rw (p.1, p.2) (told_or c.in_err-start.field-0.0 (start_refusal m raw.qubits raw.chains) (first_fault m raw.mode (opening raw.qubits raw.bits raw.chains) [] 0 raw.ops) (rw c.as_slice-chains.ensures.value at c.in_err-start.ensures))
 
 pub returns-clause-told : goal.returns-clause-told
 returns-clause-told c =
     let m = c.args.machine.now in
     let raw = raw_data c.args.raw.now in
-    answers_behind c.operations.result (start_refusal m raw.qubits raw.chains) (first_fault m (opening raw.qubits raw.bits raw.chains) [] 0 raw.ops)
+    answers_behind c.operations.result (start_refusal m raw.qubits raw.chains) (first_fault m raw.mode (opening raw.qubits raw.bits raw.chains) [] 0 raw.ops)
     (subst (λ (chains : List (List Ion)). start_refusal m raw.qubits chains ≡ None) c.as_slice-chains.ensures.value c.in_ok-start.ensures) (rw (c.as_slice-chains.ensures.value, c.as_slice.ensures.value) at c.operations.ensures.told)
 
 pub returns-clause-legal : goal.returns-clause-legal

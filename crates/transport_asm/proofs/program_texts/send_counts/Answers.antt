@@ -4,7 +4,7 @@ use Rattle.op_text.proofs.Sending.{sent_grown}
 use Rattle.transport_asm.proofs.program_texts.send_counts.Goals as goal
 
 abbrev first : ℕ → List ℕ
-first qubits = codes "QCCD 1\nqubits " ++ decimal qubits
+first qubits = codes "qubits " ++ decimal qubits
 
 abbrev second : ℕ → List ℕ
 second bits = codes "\nbits " ++ decimal bits

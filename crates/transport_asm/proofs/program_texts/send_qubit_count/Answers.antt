@@ -4,4 +4,4 @@ use Rattle.transport_asm.proofs.program_texts.send_qubit_count.Goals as goal
 
 pub returns : goal.returns
 returns g c =
-    subst (λ (n : ℕ). Sends g.S.Sink.taken g.S.Sink.faults g.S.Sink.behind c.args.sink.now c.send_labelled.new.sink c.send_labelled.result (codes "QCCD 1\nqubits " ++ decimal n)) c.from.ensures c.send_labelled.ensures
+    subst (λ (n : ℕ). Sends g.S.Sink.taken g.S.Sink.faults g.S.Sink.behind c.args.sink.now c.send_labelled.new.sink c.send_labelled.result (codes "qubits " ++ decimal n)) c.from.ensures c.send_labelled.ensures
