@@ -7,6 +7,7 @@ pub mod Mapped
 pub mod OneRuns
 pub mod OpeningContents
 pub mod Permitted
+pub mod RestedTraps
 pub mod Rising
 pub mod Rooms
 pub mod ShortSteps

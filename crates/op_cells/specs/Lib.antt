@@ -1,5 +1,6 @@
 pub mod Acted
 pub mod Cold
+pub mod Example
 pub mod Kinds
 pub mod Log
 pub mod Numbering
@@ -7,5 +8,6 @@ pub mod OneRun
 pub mod Opening
 pub mod Placed
 pub mod Places
+pub mod Rested
 pub mod Settled
 pub mod Shows

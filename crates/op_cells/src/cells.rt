@@ -1,16 +1,21 @@
 //! The cells of a machine: what each resource holds, when it is free, and what was done with it.
 
-ghost use Rattle.std.specs.Prelude.{◌≡◌, ◌<◌, ℕ, Some, length, slice_get};
+ghost use Rattle.std.specs.Prelude.{◌≡◌, ◌<◌, ◌^◌, ℕ, IfOk, Some, length, slice_get};
+ghost use Rattle.qccd_machine.specs.Machine.{MachineData};
 ghost use Rattle.op_cells.specs.Cold.{MayRunCold, RanCold};
 ghost use Rattle.op_cells.specs.Kinds.{is_trap, is_up_to_segment, is_up_to_junction, junctions_end, place_of, segments_end, traps_end};
+ghost use Rattle.op_cells.specs.Numbering.{count_of};
 ghost use Rattle.op_cells.specs.OneRun.{MayRun, Ran};
+ghost use Rattle.op_cells.specs.Places.{clock_or};
+ghost use Rattle.op_cells.specs.Rested.{fresh_cells, Rests};
 
-use crate::cooling::run_cold_on;
+use crate::cooling::{CoolTimes, rest_at, run_cold_on};
 use crate::done_list::DoneList;
 use crate::running::run_on;
 use op_table::{Content, Op};
-use qccd_base::Res;
+use qccd_base::{NoMemory, Res, TrapId};
 use qccd_machine::Machine;
+use std::alloc::Global;
 use std::marker::Model;
 
 /// That an operation was done, and when.
@@ -56,6 +61,33 @@ impl Model for Cells {
 }
 
 impl Cells {
+    /// Cells of these contents, one for each resource in their order, each free from its time on
+    /// (microseconds) and with an empty log that has so much room; or that memory ran out.
+    pub fn of(
+        alloc: Global,
+        _machine: &Machine,
+        _bits: u16,
+        states: Vec<(Content, u64)>,
+        rooms: Vec<u32>,
+    ) -> Result<Cells, NoMemory>
+        requires states { length states.items ≡ count_of _machine.now _bits }
+        requires rooms { length rooms.items ≡ count_of _machine.now _bits }
+        ensures { IfOk result (λ cells. cells ≡ fresh_cells states.items rooms.items) }
+    {
+        let mut states = states;
+        let mut list = Vec::with_capacity(alloc, states.len())?;
+        while let Some((content, free_at)) = states.pop() {
+            let log = DoneList::with_room(alloc, rooms[states.len()])?;
+            list.push(Cell {
+                content,
+                free_at,
+                log,
+            })?;
+        }
+        list.reverse();
+        Ok(Cells { cells: list })
+    }
+
     /// The cells of the list, in its order.
     pub fn of_list(list: Vec<Cell>) -> Cells
         ensures { result ≡ list.items }
@@ -112,6 +144,16 @@ pub fn run_cold(machine: &Machine, op: &Op, cells: &mut Cells)
     ensures { (bits : ℕ) → RanCold machine.now bits op.now cells.old cells.new }
 {
     run_cold_on(machine, op, cells.cells.as_mut_slice());
+}
+
+/// Cools the trap as soon as it is free: its heat is 0, and it is free again 400 microseconds later. Its log
+/// stays, and so do the other cells. It takes no memory.
+pub fn cool_trap(cells: &mut Cells, trap: TrapId) -> CoolTimes
+    requires within { trap.0 < length cells.old }
+    requires clock { clock_or (slice_get cells.old trap.0) < 2 ^ 62 }
+    ensures { (m : MachineData) (bits : ℕ) → trap.0 < length m.capacities → Rests m bits trap result cells.old cells.new }
+{
+    rest_at(cells.cells.as_mut_slice(), usize::from(trap.0))
 }
 
 // Where the traps end.

@@ -35,8 +35,20 @@ pub fn rider_in(content: &Content) -> Option<Rider>
     }
 }
 
+/// The heat of a trap, in thousandths; of anything else it is 0.
+pub fn heat_in(content: &Content) -> u64
+    ensures { result ≡ heat_in content.now }
+{
+    match content {
+        Content::Trap { chain: _, heat } => *heat,
+        Content::Seg { rider: _ } => 0,
+        Content::Junc { carry: _ } => 0,
+        Content::Bit => 0,
+    }
+}
+
 /// The ion in a junction.
-pub(crate) fn carry_in(content: &Content) -> Option<Carry>
+pub fn carry_in(content: &Content) -> Option<Carry>
     ensures { result ≡ carry_in content.now }
 {
     match content {

@@ -15,10 +15,12 @@ mod numbering;
 mod opening;
 mod places;
 mod running;
+pub mod worked;
 
-pub use cells::{Cell, Cells, Done, Held, run_cold, run_one};
+pub use cells::{Cell, Cells, Done, Held, cool_trap, run_cold, run_one};
+pub use cooling::CoolTimes;
 pub use done_list::DoneList;
-pub use effects::{chain_in, rider_in};
+pub use effects::{carry_in, chain_in, heat_in, rider_in};
 pub use held::apply;
 pub use legality::legal;
 pub use numbering::{count_of, index_of};
