@@ -1,5 +1,5 @@
 -- What the code of a board needs.
-use Rattle.std.proofs.Common.{◌≡◌, ◌<◌, ◌≤◌, ◌+◌, zero, suc, cond, None, Some, inl, inr, [], ◌∷◌, arith, ℕ, Bool, true, false, if◌then◌else◌, ◌&&◌, List, get_or, length, map, drop, not, is_some, Option, ap, subst, slice_index_or, replicate, ◌++◌, ◌∙◌, sym, refl}
+use Rattle.std.proofs.Common.{◌≡◌, ◌<◌, ◌≤◌, ◌+◌, zero, suc, None, Some, inl, inr, [], ◌∷◌, arith, ℕ, Bool, true, false, if◌then◌else◌, ◌&&◌, List, get_or, length, map, drop, not, is_some, Option, ap, subst, slice_index_or, replicate, ◌++◌, ◌∙◌, sym, refl}
 use Rattle.std.specs.Prelude.{slice_get, IsTrue, ◌↔◌}
 use Rattle.std.proofs.lemmas.Bool.{cases_Bool, false≢true, or_left, or_right}
 use Rattle.std.proofs.lemmas.Option.{same_Some, none-some}
@@ -15,11 +15,10 @@ use Rattle.op_cells.specs.Numbering.{index_of}
 use Rattle.qccd_program.specs.Legal.{IsLegalProgram}
 use Rattle.qccd_program.specs.Program.{ProgramData}
 use Rattle.qccd_program.proofs.Turning.{nth-next}
-use Rattle.claim_core.specs.declared.board.Slot.{Slot}
 use Rattle.claim_core.specs.declared.event.ActFault.{ActFault}
 use Rattle.claim_core.specs.declared.event.ActFault.TheVariants.{NotYours, Untouched, NotGot, Again}
 use Rattle.claim_core.specs.declared.event.Event.{Event}
-use Rattle.claim_core.specs.declared.event.Event.TheVariants.{Begin, Reach, Give}
+use Rattle.claim_core.specs.declared.event.Event.TheVariants.{Reach, Give}
 use Rattle.claim_core.specs.Board.{BoardData, is_there, width, slot_at, flag_at, free_slot, hand_at, turn_at, got_at, gave_at, opening_board}
 use Rattle.claim_core.specs.Event.{touched, is_op, begun, fault, moved, IsEvent, Allowed}
 use Rattle.claim_core.specs.History.{IsBoardOf, board_of, board_from}

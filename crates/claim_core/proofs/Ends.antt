@@ -1,26 +1,25 @@
 -- The least unfinished operation is enabled, and what holds where all are finished.
-use Rattle.std.proofs.Common.{◌≡◌, ◌≢◌, ℕ, zero, suc, ◌+◌, ◌<◌, ◌≤◌, ◌⊎◌, inl, inr, Bool, true, false, List, [], ◌∷◌, length, map, get_or, refl, sym, ◌∙◌, ap, subst, arith, Option, Some, None}
-use Rattle.std.proofs.lemmas.Bool.{cases_Bool, false≢true}
+use Rattle.std.proofs.Common.{◌≡◌, ◌≢◌, ℕ, zero, suc, ◌<◌, ◌≤◌, ◌⊎◌, inl, inr, true, List, [], ◌∷◌, length, get_or, refl, sym, ◌∙◌, ap, subst, arith, Option, Some, None}
+use Rattle.std.proofs.lemmas.Bool.{cases_Bool}
 use Rattle.std.proofs.lemmas.Option.{same_Some, none-some}
 use Rattle.qccd_base.specs.declared.names.Res.{Res}
-use Rattle.qccd_base.specs.Resource.{among, same_res}
-use Rattle.op_table.specs.declared.kinds.OpKind.{OpKind}
-use Rattle.op_table.specs.State.{State, IsSafe}
-use Rattle.op_table.specs.Touch.{touches, nth, total}
-use Rattle.op_table.specs.Run.{IsRun, after}
+use Rattle.qccd_base.specs.Resource.{among}
+use Rattle.op_table.specs.State.{IsSafe}
+use Rattle.op_table.specs.Touch.{nth, total}
+use Rattle.op_table.specs.Run.{IsRun}
 use Rattle.qccd_program.specs.Program.{ProgramData, opening_of, end_of}
 use Rattle.qccd_program.specs.Legal.{IsLegalProgram}
 use Rattle.qccd_program.specs.Faithful.{IsFaithful, turns_after}
 use Rattle.qccd_program.proofs.Faithfully.{faithful-run, program-end, held-first}
 use Rattle.claim_core.specs.declared.board.Slot.{Slot}
 use Rattle.claim_core.specs.declared.event.Event.{Event}
-use Rattle.claim_core.specs.Board.{HandData, BoardData, turn_at, holder_at, hand_at, got_at, gave_at, idle, opening_board}
+use Rattle.claim_core.specs.Board.{HandData, BoardData, turn_at, holder_at, got_at, gave_at, idle, opening_board}
 use Rattle.claim_core.specs.Event.{touched}
-use Rattle.claim_core.specs.Sound.{Reading, HandFits, read, Sound, IsSound, Unbegun, Finished}
-use Rattle.claim_core.specs.Enabled.{IsEnabled, IsReady, IsLeastUnfinished, AllFinished}
+use Rattle.claim_core.specs.Sound.{HandFits, read, Sound, IsSound}
+use Rattle.claim_core.specs.Enabled.{IsEnabled, IsLeastUnfinished, AllFinished}
 use Rattle.claim_core.specs.Coded.{Claims}
 use Rattle.claim_core.specs.History.{IsHistory, board_of, commits, moment, ops_of, IsBoardOf}
-use Rattle.claim_core.proofs.Turns.{Turn, turn_found, nth_same, nth_all}
+use Rattle.claim_core.proofs.Turns.{turn_found, nth_same, nth_all}
 use Rattle.claim_core.proofs.Events.{history-sound, opening-sound, slot_opening}
 use Rattle.claim_core.proofs.Faithful.{Counts, faithful-from}
 use Rattle.claim_core.proofs.Legally.{claims-legal, start-safe}

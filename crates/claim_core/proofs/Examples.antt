@@ -1,7 +1,7 @@
 -- The program of the example is legal, and its barrier is the least that is not finished.
-use Rattle.std.proofs.Common.{◌≡◌, ◌≢◌, ◌≤◌, ◌<◌, inl, inr, Bool, true, false, cond, not, ◌||◌, ◌&&◌, if◌then◌else◌, nat_lt, get_or, ℕ, zero, suc, List, [], ◌∷◌, length, refl, sym, ap, subst, arith, ◌∙◌}
-use Rattle.std.proofs.lemmas.Bool.{ne_eqb, le-ltb, false≢true, or_cases, eqb-true}
-use Rattle.std.specs.Prelude.{codes, count_by, flat_map, ◌==◌, ◌+◌}
+use Rattle.std.proofs.Common.{◌≡◌, ◌≢◌, ◌≤◌, ◌<◌, inl, inr, Bool, true, false, cond, if◌then◌else◌, nat_lt, get_or, ℕ, zero, suc, List, [], ◌∷◌, length, refl, ap, subst, arith}
+use Rattle.std.proofs.lemmas.Bool.{ne_eqb, le-ltb, false≢true, or_cases}
+use Rattle.std.specs.Prelude.{codes, count_by, flat_map, ◌==◌}
 use Rattle.qccd_base.specs.declared.names.Res.{Res}
 use Rattle.qccd_base.specs.Resource.{among, same_res}
 use Rattle.qccd_base.proofs.Resources.{same_res-true}
@@ -11,7 +11,6 @@ use Rattle.op_table.specs.Run.{items_in}
 use Rattle.op_table.specs.Start.{IsStart}
 use Rattle.qccd_program.specs.Legal.{IsLegalProgram}
 use Rattle.claim_core.specs.Enabled.{IsEnabled, IsFinished, IsLeastUnfinished, IsReady}
-use Rattle.claim_core.specs.Event.{touched}
 use Rattle.claim_core.specs.Example.{both, fenced, fence_begun, first_trap, second_trap}
 
 not_this : (k n : ℕ) → k < n → cond {A = ℕ} (k == n) 1 0 ≡ 0

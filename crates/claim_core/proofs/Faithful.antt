@@ -1,21 +1,20 @@
 -- The commits of a history are faithful.
-use Rattle.std.proofs.Common.{◌≡◌, ◌≢◌, ℕ, zero, suc, ◌+◌, ◌<◌, ◌≤◌, ◌⊎◌, inl, inr, Bool, true, false, not, cond, ◌||◌, if◌then◌else◌, List, [], ◌∷◌, ◌++◌, length, map, refl, sym, ◌∙◌, ap, subst, arith, Option, Some, None}
+use Rattle.std.proofs.Common.{◌≡◌, ◌≢◌, ℕ, suc, ◌+◌, ◌⊎◌, inl, inr, Bool, true, false, not, if◌then◌else◌, List, [], ◌∷◌, ◌++◌, refl, sym, ◌∙◌, ap, subst, arith, Option, Some, None}
 use Rattle.std.specs.Prelude.{slice_get}
-use Rattle.std.specs.List.{list_all}
-use Rattle.std.proofs.lemmas.Bool.{cases_Bool, false≢true, true≢false, or_left, or_right, or_cases, or_parts, not-true, not-false}
+use Rattle.std.proofs.lemmas.Bool.{cases_Bool, false≢true, or_left, not-true, not-false}
 use Rattle.std.proofs.lemmas.Option.{same_Some, none-some}
 use Rattle.qccd_base.specs.declared.names.Res.{Res}
 use Rattle.qccd_base.specs.Resource.{among, same_res}
 use Rattle.op_table.specs.declared.kinds.OpKind.{OpKind}
-use Rattle.op_table.specs.Touch.{touches, nth, total}
+use Rattle.op_table.specs.Touch.{touches, nth}
 use Rattle.qccd_program.specs.Program.{ProgramData}
 use Rattle.qccd_program.specs.Faithful.{one_of, IsFaithful, turns_after}
 use Rattle.qccd_base.proofs.Resources.{same_res-true}
 use Rattle.claim_core.specs.declared.event.Event.{Event}
 use Rattle.claim_core.specs.declared.event.Event.TheVariants.{Begin, Reach, Give}
-use Rattle.claim_core.specs.Board.{BoardData, turn_at, holder_at, hand_at, got_at, gave_at, opening_board}
+use Rattle.claim_core.specs.Board.{BoardData, gave_at}
 use Rattle.claim_core.specs.Event.{touched, touches_of, begun, fault, moved, IsEvent}
-use Rattle.claim_core.specs.Sound.{Reading, HandFits, IsHeld, read, Sound, IsSound}
+use Rattle.claim_core.specs.Sound.{Reading, HandFits, read, Sound, IsSound}
 use Rattle.claim_core.specs.Coded.{Claims}
 use Rattle.claim_core.specs.History.{IsHistoryFrom, board_from, numbered, committed, commits_from}
 use Rattle.claim_core.proofs.Legally.{op_there}

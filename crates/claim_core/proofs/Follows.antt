@@ -2,9 +2,9 @@
 use Rattle.std.proofs.Common.{◌≡◌, ◌≢◌, ℕ, zero, suc, ◌+◌, ◌<◌, ◌≤◌, ◌⊎◌, inl, inr, Bool, true, false, cond, ◌&&◌, ◌||◌, ◌==◌, List, [], ◌∷◌, length, map, take, refl, sym, ◌∙◌, ap, ap₂, subst, arith, Option, Some, None, option_map, unwrap_or, set}
 use Rattle.std.specs.Prelude.{slice_get, count_by, find}
 use Rattle.std.specs.List.{list_any, list_all}
-use Rattle.std.proofs.lemmas.Bool.{cases_Bool, false≢true, or_cases, or_left, or_right, and_parts, eq-eqb, eqb-true}
+use Rattle.std.proofs.lemmas.Bool.{cases_Bool, false≢true, or_cases, or_right, and_parts, eq-eqb, eqb-true}
 use Rattle.std.proofs.lemmas.Option.{same_Some, none-some}
-use Rattle.qccd_base.specs.Names.{trap, segment, junction}
+use Rattle.qccd_base.specs.Names.{trap}
 use Rattle.qccd_base.specs.declared.names.Res.{Res}
 use Rattle.qccd_base.specs.declared.names.Qubit.{Qubit}
 use Rattle.qccd_base.specs.declared.names.TrapId.{TrapId}
@@ -18,11 +18,10 @@ use Rattle.op_table.specs.declared.kinds.OpKind.TheVariants.{Split, Move, Enter,
 use Rattle.op_table.specs.Op.{IsOp}
 use Rattle.op_table.specs.State.{IonPlace, InTrap, OnSegment, InJunction, Stand, State, IsSafe, is_in_trap, is_at, ions_in, heat_of, qubit_at}
 use Rattle.op_table.specs.Step.{why, needs, effect, carries, is_qubit, holds_qubit, end_at}
-use Rattle.op_table.specs.Touch.{touches, named}
+use Rattle.op_table.specs.Touch.{possible, touches}
 use Rattle.time_heat.specs.Heat.{split_ion_heat}
 use Rattle.op_table.proofs.Counts.{count_by-cons, find_some, find_passes}
 use Rattle.op_table.proofs.Local.{Leaves, res_of}
-use Rattle.op_table.proofs.Every.{safe-effect}
 use Rattle.op_table.proofs.Rotates.{leaves_rot}
 use Rattle.op_table.proofs.Splits.{leaves_split}
 use Rattle.op_table.proofs.Merges.{leaves_merge}
@@ -247,7 +246,7 @@ sits_wanted m s (GSwap t low high) q kept legal w = absurd (none-some (w.number,
 sits_wanted m s (Item number t item at) q kept legal w =
     let met = all_met (needs m s (Item number t item at)) legal in
     let has : has_qubit item.qubits q ≡ true = ap (λ (i : ItemData). has_qubit i.qubits q) (item_same (number, item) (w.number, w.item) w.is) ∙ w.has in
-    (res.Trap t, carries_one s t.0 at item.qubits q met.1.1.0 has, ap (λ (rs : List Res). among rs (res.Trap t)) (touches-item number t item at) ∙ among-own (res.Trap t) (ascending (map res.Bit (bits_of item))))
+    (res.Trap t, carries_one s t.0 at item.qubits q met.1.1.0 has, ap (λ (rs : List Res). among rs (res.Trap t)) (touches-item number t item at) ∙ among-own (res.Trap t) (ascending (map res.Bit (possible (bits_of item)))))
 sits_wanted m s (Fence number item traps) q kept legal w =
     let met = all_met (needs m s (Fence number item traps)) legal in
     let parts = and_parts _ _ met.1.0 in

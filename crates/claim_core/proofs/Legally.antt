@@ -12,7 +12,7 @@ use Rattle.op_table.specs.declared.kinds.OpKind.TheVariants.{Split, Move, Enter,
 use Rattle.op_table.specs.Contents.{content}
 use Rattle.op_table.specs.Op.{IsOp}
 use Rattle.op_table.specs.State.{State, IsSafe}
-use Rattle.op_table.specs.Touch.{touches}
+use Rattle.op_table.specs.Touch.{possible, touches}
 use Rattle.op_table.proofs.Every.{why-on}
 use Rattle.op_table.proofs.Openings.{opening-safe}
 use Rattle.op_cells.specs.Numbering.{IsThere}
@@ -45,7 +45,7 @@ touches_some (Leave j g) kept = some_with (res.Seg g) (ascending (res.Junc j ∷
 touches_some (Merge g t e) kept = some_with (res.Trap t) (ascending (res.Seg g ∷ []))
 touches_some (Rot t p) kept = some_with (res.Trap t) []
 touches_some (GSwap t low high) kept = some_with (res.Trap t) []
-touches_some (Item number t item at) kept = some_with (res.Trap t) (ascending (map res.Bit (bits_of item)))
+touches_some (Item number t item at) kept = some_with (res.Trap t) (ascending (map res.Bit (possible (bits_of item))))
 touches_some (Fence number item []) kept = absurd (no_length kept.1)
   where
     no_length : 0 < 0 → ⊥

@@ -1,5 +1,5 @@
 -- Of two items that share, the earlier is joined to the later, and commits first.
-use Rattle.std.proofs.Common.{◌≡◌, ◌≢◌, ℕ, zero, suc, ◌+◌, ◌<◌, ◌≤◌, ◌⊎◌, inl, inr, Bool, true, false, cond, ◌||◌, ◌==◌, nat_lt, if◌then◌else◌, List, [], ◌∷◌, ◌++◌, ap₂, length, map, take, refl, sym, ◌∙◌, ap, subst, arith, Option, Some, None}
+use Rattle.std.proofs.Common.{◌≡◌, ℕ, zero, suc, ◌+◌, ◌<◌, ◌≤◌, inl, inr, Bool, true, cond, ◌==◌, nat_lt, List, [], ◌∷◌, length, take, refl, sym, ◌∙◌, ap, subst, arith, Some}
 use Rattle.std.specs.Prelude.{slice_get, count_by}
 use Rattle.std.specs.List.{list_any, AllByRecursion}
 use Rattle.std.proofs.lemmas.Bool.{cases_Bool, false≢true, or_cases, or_left, or_right, eqb-true, ltb-true}
@@ -8,30 +8,23 @@ use Rattle.std.proofs.lemmas.Option.{same_Some, none-some}
 use Rattle.qccd_base.specs.declared.names.Res.{Res}
 use Rattle.qccd_base.specs.declared.names.Qubit.{Qubit}
 use Rattle.qccd_base.specs.declared.names.Bit.{Bit}
-use Rattle.qccd_base.specs.declared.names.TrapId.{TrapId}
-use Rattle.qccd_base.specs.Resource.{among, same_res, with_res, ascending, comes_before}
+use Rattle.qccd_base.specs.Resource.{among}
 use Rattle.qccd_machine.specs.Machine.{MachineData}
-use Rattle.qccd_circuit.specs.Item.{ItemData, FitsKind, bits_of, cond_bits, has_qubit}
-use Rattle.qccd_circuit.specs.declared.kinds.Cond.{Cond}
-use Rattle.qccd_circuit.specs.declared.kinds.ItemKind.{ItemKind}
-use Rattle.qccd_circuit.specs.declared.kinds.ItemKind.TheVariants.{Barrier}
-use Rattle.qccd_base.proofs.Resources.{among-ascending}
-use Rattle.qccd_circuit.specs.Sharing.{shares, share_qubit, share_bit, has_bit}
+use Rattle.qccd_circuit.specs.Item.{ItemData, bits_of, has_qubit}
+use Rattle.qccd_circuit.specs.Sharing.{share_qubit, share_bit, has_bit}
 use Rattle.op_table.specs.declared.kinds.OpKind.{OpKind}
-use Rattle.op_table.specs.declared.kinds.OpKind.TheVariants.{Split, Move, Enter, Leave, Merge, Rot, GSwap, Item, Fence}
 use Rattle.op_table.specs.Op.{IsOp, KeepsItemRule}
 use Rattle.op_table.specs.State.{Stand, State, IsSafe}
-use Rattle.op_table.specs.Step.{why, effect}
-use Rattle.op_table.specs.Touch.{touches, nth}
-use Rattle.op_table.specs.Run.{IsRun, after, item_in}
-use Rattle.qccd_program.specs.Program.{ProgramData, opening_of, before}
+use Rattle.op_table.specs.Step.{effect}
+use Rattle.op_table.specs.Touch.{most_bits, touches, nth}
+use Rattle.op_table.specs.Run.{IsRun, after}
+use Rattle.qccd_program.specs.Program.{ProgramData, opening_of}
 use Rattle.qccd_program.specs.Faithful.{one_of, IsFaithful}
 use Rattle.qccd_program.specs.Legal.{IsLegalProgram}
 use Rattle.op_table.proofs.Counts.{count_by-cons, count_sum}
 use Rattle.qccd_program.proofs.Runs.{legal_at}
 use Rattle.op_table.proofs.Every.{safe-effect}
-use Rattle.op_table.proofs.Needs.{touches-item}
-use Rattle.qccd_base.proofs.Resources.{among-own, same_res-true}
+use Rattle.op_table.proofs.Bits.{bit-touched}
 use Rattle.claim_core.specs.declared.event.Event.{Event}
 use Rattle.claim_core.specs.Event.{touched}
 use Rattle.claim_core.specs.History.{IsHistory, commits}
@@ -153,35 +146,6 @@ qubit-chain m s ops a b oa ob q runs less is_a is_b want_a want_b =
     let trail = follow m s ops b ob q d.0 (suc a) place.0 runs is_b want_b d.1 (subst (λ (x : State). Sits x.ions q.0 place.0) (sym next) place.1) in
     (trail.0, trail-chain ops a place.0 trail.0 b (ap (λ (rs : List Res). among rs place.0) (touched_at ops a oa is_a) ∙ at) trail.1)
 
-bit_among : (bs : List Bit) (b : Bit) → has_bit bs b ≡ true → among (map res.Bit bs) (res.Bit b) ≡ true
-bit_among [] b h = h
-bit_among (c ∷ bs) b h = elim (or_cases (c.0 == b.0) (has_bit bs b) h) [
-  | inl is ↦ or_left (same_res (res.Bit c) (res.Bit b)) (among (map res.Bit bs) (res.Bit b)) is
-  | inr rest ↦ or_right (same_res (res.Bit c) (res.Bit b)) (among (map res.Bit bs) (res.Bit b)) (bit_among bs b rest)
-]
-
-no_bits : (kind : ItemKind) (item : ItemData) → kind ≡ Barrier → FitsKind kind item → bits_of item ≡ []
-no_bits kind item is fits =
-    let parts = subst (λ (k : ItemKind). FitsKind k item) is fits in
-    ap₂ (λ (bs : List Bit) (c : Option Cond). bs ++ cond_bits c) parts.1 parts.4
-
--- an item touches its bits
-touches_bit : (op : OpKind) (item : ItemData) (number : ℕ) (b : Bit) → IsOp op → KeepsItemRule op → item_in op ≡ Some (number, item) → has_bit (bits_of item) b ≡ true → among (touches op) (res.Bit b) ≡ true
-touches_bit (Split t d g) item number b kept fits at has = absurd (none-some (number, item) at)
-touches_bit (Move g) item number b kept fits at has = absurd (none-some (number, item) at)
-touches_bit (Enter g j) item number b kept fits at has = absurd (none-some (number, item) at)
-touches_bit (Leave j g) item number b kept fits at has = absurd (none-some (number, item) at)
-touches_bit (Merge g t d) item number b kept fits at has = absurd (none-some (number, item) at)
-touches_bit (Rot t p) item number b kept fits at has = absurd (none-some (number, item) at)
-touches_bit (GSwap t low high) item number b kept fits at has = absurd (none-some (number, item) at)
-touches_bit (Item n t own ks) item number b kept fits at has =
-    let here : has_bit (bits_of own) b ≡ true = ap (λ (x : ℕ × ItemData). has_bit (bits_of x.1) b) (same_Some (n, own) (number, item) at) ∙ has in
-    among-ascending (res.Trap t ∷ map res.Bit (bits_of own)) (res.Bit b)
-    ∙ or_right (same_res (res.Trap t) (res.Bit b)) (among (map res.Bit (bits_of own)) (res.Bit b)) (bit_among (bits_of own) b here)
-touches_bit (Fence n own traps) item number b kept fits at has =
-    let here : has_bit (bits_of own) b ≡ true = ap (λ (x : ℕ × ItemData). has_bit (bits_of x.1) b) (same_Some (n, own) (number, item) at) ∙ has in
-    absurd (false≢true (sym (ap (λ (bs : List Bit). has_bit bs b) (no_bits own.kind own kept.0 fits.kind)) ∙ here))
-
 all_at : (P : OpKind → Type 0) (ops : List OpKind) (k : ℕ) (op : OpKind) → AllByRecursion P ops → slice_get ops k ≡ Some op → P op
 all_at P [] k op all is = absurd (none-some op is)
 all_at P (o ∷ ops) zero op all is = subst P (same_Some o op is) all.0
@@ -202,8 +166,8 @@ any_bit f (b ∷ bs) h = elim (or_cases (f b) (list_any f bs) h) [
 ]
 
 -- two items that share are joined
-pub shared-chain : (m : MachineData) (s : State) (ops : List OpKind) (a b : ℕ) → Runs m s ops → AllByRecursion KeepsItemRule ops → ShareInOrder ops a b → (js : List ℕ) × IsChain ops a js b
-shared-chain m s ops a b runs fit two = elim (or_cases (share_qubit two.first.qubits two.second.qubits) (share_bit (bits_of two.first) (bits_of two.second)) two.share) [
+pub shared-chain : (m : MachineData) (s : State) (ops : List OpKind) (a b : ℕ) → Runs m s ops → s.bits ≤ most_bits → AllByRecursion KeepsItemRule ops → ShareInOrder ops a b → (js : List ℕ) × IsChain ops a js b
+shared-chain m s ops a b runs few fit two = elim (or_cases (share_qubit two.first.qubits two.second.qubits) (share_bit (bits_of two.first) (bits_of two.second)) two.share) [
   | inl qubits ↦
       let q = any_qubit (has_qubit two.second.qubits) two.first.qubits qubits in
       qubit-chain m s ops a b two.does_first.op two.does_second.op q.0 runs two.earlier two.does_first.is two.does_second.is
@@ -211,13 +175,15 @@ shared-chain m s ops a b runs fit two = elim (or_cases (share_qubit two.first.qu
       (record { number = two.does_second.number; item = two.second; is = two.does_second.does; has = q.2 })
   | inr bits ↦
       let c = any_bit (has_bit (bits_of two.second)) (bits_of two.first) bits in
-      ([], record { earlier = two.earlier; res = res.Bit c.0; first = touches_its ops a two.first c.0 runs.each fit two.does_first c.1; second = touches_its ops b two.second c.0 runs.each fit two.does_second c.2 })
+      ([], record { earlier = two.earlier; res = res.Bit c.0; first = touches_its a two.first c.0 two.does_first c.1; second = touches_its b two.second c.0 two.does_second c.2 })
 ]
   where
-    touches_its : (ops : List OpKind) (k : ℕ) (item : ItemData) (b : Bit) → AllByRecursion IsOp ops → AllByRecursion KeepsItemRule ops → DoesItem ops k item → has_bit (bits_of item) b ≡ true → among (touched ops k) (res.Bit b) ≡ true
-    touches_its ops k item b each fit does has =
+    touches_its : (k : ℕ) (item : ItemData) (b : Bit) → DoesItem ops k item → has_bit (bits_of item) b ≡ true → among (touched ops k) (res.Bit b) ≡ true
+    touches_its k item b does has =
+        let z : State = after m s (take k ops) in
+        let facts = legal_at m s ops k does.op runs.safe runs.each runs.run does.is in
         ap (λ (rs : List Res). among rs (res.Bit b)) (touched_at ops k does.op does.is)
-        ∙ touches_bit does.op item does.number b (all_at IsOp ops k does.op each does.is) (all_at KeepsItemRule ops k does.op fit does.is) does.does has
+        ∙ bit-touched m z does.op (does.number, item) b (omega (arith, facts.3, few)) facts.0 facts.2 (all_at KeepsItemRule ops k does.op fit does.is) does.does has
 
 -- in a faithful list each earlier turn of a resource stands before
 pub record Before (ops : List OpKind) (v : List (ℕ × OpKind)) (y : ℕ) (r : Res) (n : ℕ) : Type 0 where
@@ -275,6 +241,6 @@ chain_before ops v y a (j ∷ js) b ob f is chain =
 
 pub same-items : (p : ProgramData) (n : ℕ) (es : List Event) (a b : ℕ) → IsLegalProgram p → IsHistory p n es → ShareInOrder p.ops a b → StandsBefore (commits p n es) a b
 same-items p n es a b legal h two y later is =
-    let chain = shared-chain p.machine (opening_of p) p.ops a b (record { safe = start-safe p legal; each = legal.ops; run = legal.run }) legal.items_fit two in
+    let chain = shared-chain p.machine (opening_of p) p.ops a b (record { safe = start-safe p legal; each = legal.ops; run = legal.run }) legal.bits legal.items_fit two in
     let before = chain_before p.ops (commits p n es) y a chain.0 b later (faithful-commits p n es (claims-legal p legal) h).0 is chain.1 in
     (before.at, before.op, before.early, before.is)

@@ -1,5 +1,5 @@
 -- Two neighbours of a run that touch nothing in common may be exchanged.
-use Rattle.std.proofs.Common.{◌≡◌, false, List, [], ◌∷◌, ◌++◌, sym, ap, subst, None}
+use Rattle.std.proofs.Common.{◌≡◌, false, List, [], ◌∷◌, ◌++◌, sym, ap, subst}
 use Rattle.std.specs.List.{AllByRecursion}
 use Rattle.qccd_machine.specs.Machine.{MachineData}
 use Rattle.op_table.specs.declared.kinds.OpKind.{OpKind}

@@ -1,5 +1,5 @@
 -- The commits have the times of the program, and where all are finished each operation is committed.
-use Rattle.std.proofs.Common.{◌≡◌, ◌≢◌, ℕ, zero, suc, max, ◌+◌, ◌<◌, ◌≤◌, inl, inr, Bool, true, false, if◌then◌else◌, List, [], ◌∷◌, map, take, refl, sym, ◌∙◌, ap, ap₂, arith, Some}
+use Rattle.std.proofs.Common.{◌≡◌, ℕ, zero, suc, max, ◌+◌, ◌<◌, ◌≤◌, inl, inr, Bool, true, false, if◌then◌else◌, List, [], ◌∷◌, map, take, refl, sym, ◌∙◌, ap, ap₂, arith, Some}
 use Rattle.std.specs.Prelude.{slice_get}
 use Rattle.std.proofs.lemmas.Bool.{cases_Bool}
 use Rattle.std.proofs.lemmas.Option.{same_Some, none-some}
@@ -21,7 +21,7 @@ use Rattle.claim_core.specs.declared.event.Event.{Event}
 use Rattle.claim_core.specs.Enabled.{AllFinished}
 use Rattle.claim_core.specs.End.{HasItsTimes}
 use Rattle.claim_core.specs.Event.{touched}
-use Rattle.claim_core.specs.History.{IsHistory, board_of, commits, ops_of}
+use Rattle.claim_core.specs.History.{IsHistory, board_of, commits}
 use Rattle.claim_core.proofs.Ends.{faithful-commits, sound-history, none_held, last_turns}
 use Rattle.claim_core.proofs.Kept.{cases_ℕ}
 use Rattle.claim_core.proofs.Legally.{claims-legal, touched_at}
