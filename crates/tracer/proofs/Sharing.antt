@@ -1,5 +1,5 @@
 -- Two items in a row that share are done by operations that meet.
-use Rattle.std.proofs.Common.{◌≡◌, ℕ, zero, suc, ◌+◌, ◌<◌, ◌≤◌, inl, inr, Bool, true, false, cond, ◌&&◌, ◌==◌, nat_lt, List, [], ◌∷◌, ◌++◌, map, length, refl, sym, ◌∙◌, ap, ap₂, subst, arith, Option, Some, None, option_map}
+use Rattle.std.proofs.Common.{◌≡◌, ℕ, zero, suc, ◌+◌, ◌<◌, ◌≤◌, inl, inr, Bool, true, false, cond, ◌&&◌, ◌==◌, nat_lt, List, [], ◌∷◌, map, length, refl, sym, ◌∙◌, ap, arith, Option, Some, None, option_map}
 use Rattle.std.specs.Prelude.{count_by, find, slice_get, IsTrue}
 use Rattle.std.specs.List.{list_any, list_all}
 use Rattle.std.proofs.lemmas.Bool.{cases_lt, false≢true, or_cases, or_left, or_right, and_parts, and_from, eq-eqb, eqb-true}
@@ -13,10 +13,7 @@ use Rattle.qccd_base.specs.declared.names.Res.TheVariants as res
 use Rattle.qccd_base.specs.Resource.{among, same_res}
 use Rattle.qccd_base.specs.Names.{trap}
 use Rattle.qccd_base.proofs.Resources.{among-ascending}
-use Rattle.qccd_circuit.specs.declared.kinds.ItemKind.{ItemKind}
-use Rattle.qccd_circuit.specs.declared.kinds.ItemKind.TheVariants as item_kind
-use Rattle.qccd_circuit.specs.declared.kinds.Cond.{Cond}
-use Rattle.qccd_circuit.specs.Item.{ItemData, Fits, FitsKind, has_qubit, bits_of, cond_bits}
+use Rattle.qccd_circuit.specs.Item.{ItemData, has_qubit, bits_of}
 use Rattle.qccd_circuit.specs.Sharing.{shares, share_qubit, share_bit, has_bit}
 use Rattle.qccd_machine.specs.Machine.{MachineData}
 use Rattle.op_table.specs.declared.kinds.OpKind.{OpKind}
@@ -25,7 +22,8 @@ use Rattle.op_table.specs.State.{IonPlace, InTrap, OnSegment, InJunction, Stand,
 use Rattle.op_table.specs.Step.{why, effect, needs, carries, is_qubit, holds_qubit}
 use Rattle.op_table.specs.Op.{IsOp, KeepsItemRule}
 use Rattle.op_table.specs.Run.{item_in}
-use Rattle.op_table.specs.Touch.{touches, named, meets}
+use Rattle.op_table.specs.Touch.{most_bits, possible, touches, named, meets}
+use Rattle.op_table.proofs.Bits.{bit-touched}
 use Rattle.op_table.proofs.Counts.{count_by-cons, find_passes}
 use Rattle.op_table.proofs.Chains.{count_sum_le}
 use Rattle.op_table.proofs.Found.{any_at, any_from, in_at, at_in, seek_unique}
@@ -147,7 +145,7 @@ holds m s (Item number t item at) a q legal is has =
     let met = all_met (needs m s (Item number t item at)) legal in
     let same : item ≡ a.1 = ap (λ (e : ℕ × ItemData). e.1) (same_Some (number, item) a is) in
     let own : has_qubit item.qubits q ≡ true = ap (λ (d : ItemData). has_qubit d.qubits q) same ∙ has in
-    (t, carried_all s t.0 at item.qubits q met.1.1.0 own, touched_named (Item number t item at) (res.Trap t) (own_among (res.Trap t) (map res.Bit (bits_of item))))
+    (t, carried_all s t.0 at item.qubits q met.1.1.0 own, touched_named (Item number t item at) (res.Trap t) (own_among (res.Trap t) (map res.Bit (possible (bits_of item)))))
 holds m s (Fence number item traps) a q legal is has =
     let met = all_met (needs m s (Fence number item traps)) legal in
     let same : item ≡ a.1 = ap (λ (e : ℕ × ItemData). e.1) (same_Some (number, item) a is) in
@@ -157,37 +155,6 @@ holds m s (Fence number item traps) a q legal is has =
     let some : list_any (λ t. holds_qubit s t.0 p.1) traps ≡ true = all_at (λ p. list_any (λ t. holds_qubit s t.0 p) traps) item.qubits p.0 p.1 parts.0 p.2 in
     let t = any_at (λ (t : TrapId). holds_qubit s t.0 p.1) traps some in
     (t.1, held_same s t.1.0 p.1 q p.3 t.3, touched_named (Fence number item traps) (res.Trap t.1) (among_traps traps t.0 t.1 t.2))
-
-among_bits : (bs : List Bit) (b : Bit) → has_bit bs b ≡ true → among (map res.Bit bs) (res.Bit b) ≡ true
-among_bits [] b h = absurd (false≢true h)
-among_bits (c ∷ bs) b h = elim (or_cases (c.0 == b.0) (has_bit bs b) h) [
-  | inl e ↦ or_left (same_res (res.Bit c) (res.Bit b)) (among (map res.Bit bs) (res.Bit b)) e
-  | inr e ↦ or_right (same_res (res.Bit c) (res.Bit b)) (among (map res.Bit bs) (res.Bit b)) (among_bits bs b e)
-]
-
--- an item that does not touch its bits has none
-barrier_bits : (item : ItemData) → item.kind ≡ item_kind.Barrier → Fits item → bits_of item ≡ []
-barrier_bits item is fits =
-    let rule : FitsKind item_kind.Barrier item = subst (λ (k : ItemKind). FitsKind k item) is fits.kind in
-    ap₂ (λ (bs : List Bit) (c : Option Cond). bs ++ cond_bits c) rule.1 rule.4
-
-bit_touched : (op : OpKind) (a : ℕ × ItemData) (b : Bit) → IsOp op → KeepsItemRule op → item_in op ≡ Some a → has_bit (bits_of a.1) b ≡ true → among (touches op) (res.Bit b) ≡ true
-bit_touched (Split t e g) a b kept rule is has = absurd (none-some a is)
-bit_touched (Move g) a b kept rule is has = absurd (none-some a is)
-bit_touched (Enter g j) a b kept rule is has = absurd (none-some a is)
-bit_touched (Leave j g) a b kept rule is has = absurd (none-some a is)
-bit_touched (Merge g t e) a b kept rule is has = absurd (none-some a is)
-bit_touched (Rot t p) a b kept rule is has = absurd (none-some a is)
-bit_touched (GSwap t low high) a b kept rule is has = absurd (none-some a is)
-bit_touched (Item number t item at) a b kept rule is has =
-    let same : item ≡ a.1 = ap (λ (e : ℕ × ItemData). e.1) (same_Some (number, item) a is) in
-    let own : has_bit (bits_of item) b ≡ true = ap (λ (d : ItemData). has_bit (bits_of d) b) same ∙ has in
-    touched_named (Item number t item at) (res.Bit b) (or_right (same_res (res.Trap t) (res.Bit b)) (among (map res.Bit (bits_of item)) (res.Bit b)) (among_bits (bits_of item) b own))
-bit_touched (Fence number item traps) a b kept rule is has =
-    let same : item ≡ a.1 = ap (λ (e : ℕ × ItemData). e.1) (same_Some (number, item) a is) in
-    let own : has_bit (bits_of item) b ≡ true = ap (λ (d : ItemData). has_bit (bits_of d) b) same ∙ has in
-    let empty : bits_of item ≡ [] = barrier_bits item kept.0 rule in
-    absurd (false≢true (ap (λ (bs : List Bit). has_bit bs b) (sym empty) ∙ own))
 
 -- ---- items that share
 
@@ -206,13 +173,13 @@ no_common : (x y : OpKind) (r : Res) → meets x y ≡ false → among (touches 
 no_common x y r apart in_x in_y = false≢true (sym (apart_other (touches x) (touches y) r apart in_y) ∙ in_x)
 
 -- two operations in a row that touch nothing in common do no items that share
-pub apart_items : (m : MachineData) (s : State) (x y : OpKind) (a b : ℕ × ItemData) → IsSafe m s → IsOp x → IsOp y → KeepsItemRule x → KeepsItemRule y → why m s x ≡ None → why m (effect m s x) y ≡ None → meets x y ≡ false
+pub apart_items : (m : MachineData) (s : State) (x y : OpKind) (a b : ℕ × ItemData) → IsSafe m s → s.bits ≤ most_bits → IsOp x → IsOp y → KeepsItemRule x → KeepsItemRule y → why m s x ≡ None → why m (effect m s x) y ≡ None → meets x y ≡ false
     → item_in x ≡ Some a → item_in y ≡ Some b → IsTrue (shares a.1 b.1) → ⊥
-apart_items m s x y a b safe op_x op_y rule_x rule_y legal then apart is_x is_y share = elim (or_cases (share_qubit a.1.qubits b.1.qubits) (share_bit (bits_of a.1) (bits_of b.1)) share) [
+apart_items m s x y a b safe few op_x op_y rule_x rule_y legal then apart is_x is_y share = elim (or_cases (share_qubit a.1.qubits b.1.qubits) (share_bit (bits_of a.1) (bits_of b.1)) share) [
   | inl h ↦
       let q = any_at (has_qubit b.1.qubits) a.1.qubits h in
       let own : has_qubit a.1.qubits q.1 ≡ true = any_from (λ (r : Qubit). r.0 == q.1.0) a.1.qubits q.0 q.1 q.2 (eq-eqb q.1.0 q.1.0 refl) in
-      let legal_y : why m s y ≡ None = ap (λ (z : State). why m z y) (sym (item_stays m s x a is_x)) ∙ then in
+      let legal_y = legal_there is_x then in
       let t = holds m s x a q.1 legal is_x own in
       let u = holds m s y b q.1 legal_y is_y q.3 in
       let same : t.0.0 ≡ u.0.0 = in_one_trap m s t.0.0 u.0.0 q.1 safe t.1 u.1 in
@@ -220,5 +187,8 @@ apart_items m s x y a b safe op_x op_y rule_x rule_y legal then apart is_x is_y 
   | inr h ↦
       let c = any_at (has_bit (bits_of b.1)) (bits_of a.1) h in
       let own : has_bit (bits_of a.1) c.1 ≡ true = any_from (λ (r : Bit). r.0 == c.1.0) (bits_of a.1) c.0 c.1 c.2 (eq-eqb c.1.0 c.1.0 refl) in
-      no_common x y (res.Bit c.1) apart (bit_touched x a c.1 op_x rule_x is_x own) (bit_touched y b c.1 op_y rule_y is_y c.3)
+      no_common x y (res.Bit c.1) apart (bit-touched m s x a c.1 few legal op_x rule_x is_x own) (bit-touched m s y b c.1 few (legal_there is_x then) op_y rule_y is_y c.3)
 ]
+  where
+    legal_there : item_in x ≡ Some a → why m (effect m s x) y ≡ None → why m s y ≡ None
+    legal_there is then = ap (λ (z : State). why m z y) (sym (item_stays m s x a is)) ∙ then

@@ -4,7 +4,6 @@ ghost use Rattle.std.specs.Prelude.{◌≡◌, ◌+◌, ◌<◌, ◌≤◌, ◌+
 ghost use Rattle.std.specs.List.{range_with_len};
 ghost use Rattle.qccd_base.specs.Greatest.{greatest};
 ghost use Rattle.qccd_io.specs.Sends.{Sends};
-ghost use Rattle.op_table.specs.Act.{carry_in, heat_in};
 ghost use Rattle.op_table.specs.Contents.{content};
 ghost use Rattle.op_table.specs.State.{is_in_junction, is_on_segment};
 ghost use Rattle.op_cells.specs.Numbering.{IsThere};
@@ -14,7 +13,7 @@ ghost use Rattle.op_text.specs.OpText.{next_word};
 ghost use Rattle.tracer.specs.Report.{end_line, end_lines, junction_line, labelled, last_finish, pair_text, segment_line, side_text, stray_lines};
 ghost use Rattle.tracer.specs.Summary.{traps_heat};
 
-use op_cells::{Cell, Cells, chain_in, index_of, rider_in};
+use op_cells::{Cell, Cells, carry_in, chain_in, heat_in, index_of, rider_in};
 use op_table::{Carry, Content, Entry, Rider};
 use qccd_base::{JuncId, Res, SegEnd, SegId, TrapId};
 use qccd_io::{Failed, Piece, Sink, send};
@@ -27,30 +26,6 @@ fn held_at_end<'a>(program: &Program, cells: &'a Cells, r: Res) -> &'a Content
     ensures { result.now ≡ content (end_of program.now) r }
 {
     &cells.as_slice()[index_of(program.machine(), r)].content
-}
-
-// The heat of a trap, in thousandths; nothing else has any.
-fn heat_in(content: &Content) -> u64
-    ensures { result ≡ heat_in content.now }
-{
-    match content {
-        Content::Trap { chain: _, heat } => *heat,
-        Content::Seg { rider: _ } => 0,
-        Content::Junc { carry: _ } => 0,
-        Content::Bit => 0,
-    }
-}
-
-// The ion in a junction; nothing else has one.
-fn carry_in(content: &Content) -> Option<Carry>
-    ensures { result ≡ carry_in content.now }
-{
-    match content {
-        Content::Trap { chain: _, heat: _ } => None,
-        Content::Seg { rider: _ } => None,
-        Content::Junc { carry } => *carry,
-        Content::Bit => None,
-    }
 }
 
 // An ion and the qubit that it carries as a further word, in front of a piece.
