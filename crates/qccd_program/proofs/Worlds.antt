@@ -1,5 +1,5 @@
 -- The cells of a run: what an operation leaves in those that it touches, and its start.
-use Rattle.std.proofs.Common.{◌≡◌, ℕ, zero, suc, max, ◌+◌, ◌<◌, ◌≤◌, inl, inr, Bool, true, false, cond, ◌==◌, if◌then◌else◌, List, [], ◌∷◌, ◌++◌, map, take, length, refl, sym, ◌∙◌, ap, ap₂, subst, arith, Some, None, length-append}
+use Rattle.std.proofs.Common.{◌≡◌, ℕ, zero, suc, ◌+◌, ◌<◌, Bool, true, false, cond, ◌==◌, if◌then◌else◌, List, [], ◌∷◌, ◌++◌, map, take, length, refl, sym, ◌∙◌, ap, ap₂, arith, Some, None, length-append}
 use Rattle.std.specs.Prelude.{slice_get}
 use Rattle.std.proofs.lemmas.Bool.{cases_Bool, false≢true, or_left, or_right, or_cases}
 use Rattle.std.proofs.lemmas.Option.{same_Some, none-some}
@@ -24,8 +24,9 @@ use Rattle.qccd_program.specs.CellOfRun.{cell_in, firsts}
 use Rattle.qccd_program.proofs.Turning.{stepped, Others}
 use Rattle.op_table.proofs.Counts.{count_by-cons}
 use Rattle.op_table.proofs.Every.{content-touched, content-untouched}
-use Rattle.op_table.proofs.Neighbours.{own_among, same_res_is}
-use Rattle.qccd_program.proofs.Clocks.{clock_after, start-clocks}
+use Rattle.op_table.proofs.Neighbours.{own_among}
+use Rattle.qccd_program.proofs.Clocks.{InClock, clock_after, latest-greatest, start-latest}
+pub use Rattle.qccd_program.proofs.Clocks.{maps_alike}
 use Rattle.std.specs.List.{AllByRecursion}
 use Rattle.op_cells.proofs.Rising.{Rising, rising-ascending, differs}
 
@@ -51,32 +52,16 @@ cell-others m w op r out =
     let held : content (effect m w.state op) r ≡ content w.state r = content-untouched m w.state op r out in
     λ i. record { content = held i; clock = clock i; log = log i }
 
-greatest_has : (f : Res → ℕ) (rs : List Res) (r : Res) → among rs r ≡ true → f r ≤ greatest (map f rs)
-greatest_has f [] r at = absurd (false≢true at)
-greatest_has f (q ∷ rs) r at = elim (or_cases (same_res q r) (among rs r) at) [
-  | inl h ↦ let is : q ≡ r = same_res_is q r h in subst (λ (x : Res). f x ≤ greatest (map f (q ∷ rs))) is (omega arith)
-  | inr h ↦ let rest : f r ≤ greatest (map f rs) = greatest_has f rs r h in omega arith
-]
-
-no_less : (n k : ℕ) → k ≤ n → max n k ≡ n
-no_less n k h = omega arith
+-- times that the clocks make are in clock
+in_clock : (m : MachineData) (earlier : List Timed) → Clocked m earlier → InClock (λ x. touches x.op) (λ x. x.finish) earlier
+in_clock m [] kept = tt
+in_clock m (x ∷ xs) kept =
+    let ends : x.finish ≡ start_after xs x.op + duration m x.op = ap (λ (y : Timed). y.finish) kept.0 in
+    (omega (arith, ends), in_clock m xs kept.1)
 
 -- the finish of the last is the greatest finish
 pub clock-last : (m : MachineData) (earlier : List Timed) (r : Res) → Clocked m earlier → clock_of earlier r ≡ clock_after earlier r
-clock-last m [] r kept = refl
-clock-last m (x ∷ xs) r kept = go (among (touches x.op) r) refl (clock-last m xs r kept.1)
-  where
-    go : (b : Bool) → among (touches x.op) r ≡ b → clock_of xs r ≡ clock_after xs r → (if b then x.finish else clock_of xs r) ≡ (if b then max x.finish (clock_after xs r) else clock_after xs r)
-    go false h rest = rest
-    go true h rest =
-        let most : clock_after xs r ≤ greatest (map (clock_after xs) (touches x.op)) = greatest_has (clock_after xs) (touches x.op) r h in
-        let starts : start_after xs x.op ≡ greatest (map (clock_after xs) (touches x.op)) = start-clocks xs x.op in
-        let ends : x.finish ≡ start_after xs x.op + duration m x.op = ap (λ (y : Timed). y.finish) kept.0 in
-        sym (no_less x.finish (clock_after xs r) (omega (arith, most, starts, ends)))
-
-pub maps_alike : {X Y : Type 0} (f g : X → Y) (xs : List X) → ((x : X) → f x ≡ g x) → map f xs ≡ map g xs
-maps_alike f g [] same = refl
-maps_alike {X} {Y} f g (x ∷ xs) same = ap₂ (λ (y : Y) (ys : List Y). y ∷ ys) (same x) (maps_alike f g xs same)
+clock-last m earlier r kept = latest-greatest (λ x. touches x.op) (λ x. x.finish) earlier r (in_clock m earlier kept)
 
 pub map_twice : {X Y Z : Type 0} (g : Y → Z) (f : X → Y) (xs : List X) → map g (map f xs) ≡ map (λ x. g (f x)) xs
 map_twice g f [] = refl
@@ -85,8 +70,8 @@ map_twice {X} {Y} {Z} g f (x ∷ xs) = ap (λ (ys : List Z). g (f x) ∷ ys) (ma
 -- the start on the cells is the start
 pub start-on : (m : MachineData) (w : World) (op : OpKind) → Clocked m w.earlier → start_on (map (cell_in w) (touches op)) ≡ start_after w.earlier op
 start-on m w op kept =
-    ap greatest (map_twice (λ (d : CellData). d.clock) (cell_in w) (touches op) ∙ maps_alike (λ r. (cell_in w r).clock) (clock_after w.earlier) (touches op) (λ r. clock-last m w.earlier r kept))
-    ∙ sym (start-clocks w.earlier op)
+    ap greatest (map_twice (λ (d : CellData). d.clock) (cell_in w) (touches op))
+    ∙ start-latest (λ x. touches x.op) (λ x. x.finish) w.earlier (touches op) (in_clock m w.earlier kept)
 
 pub contents-on : (w : World) (rs : List Res) → map (λ (d : CellData). d.content) (map (cell_in w) rs) ≡ map (content w.state) rs
 contents-on w rs = map_twice (λ (d : CellData). d.content) (cell_in w) rs

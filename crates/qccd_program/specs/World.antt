@@ -22,10 +22,14 @@ opening_world p = record { state = opening_of p; earlier = [] }
 abbrev pub world_after : MachineData → World → OpKind → World
 world_after m w op = record { state = effect m w.state op; earlier = timed_after m w.earlier op ∷ w.earlier }
 
--- the clock of a resource: the finish of the last operation that touched it, or 0
+-- of entries that take resources and finish, the last one first, the finish of the last that takes a resource, or 0
+abbrev pub latest : {X : Type 0} → (X → List Res) → (X → ℕ) → List X → Res → ℕ
+latest takes finish [] r = 0
+latest takes finish (x ∷ xs) r = if among (takes x) r then finish x else latest takes finish xs r
+
+-- the clock of a resource: the finish of the last operation that touched it
 abbrev pub clock_of : List Timed → Res → ℕ
-clock_of [] r = 0
-clock_of (x ∷ xs) r = if among (touches x.op) r then x.finish else clock_of xs r
+clock_of earlier r = latest (λ x. touches x.op) (λ x. x.finish) earlier r
 
 -- the log of a resource: number, start and finish of each operation of which it is the first, in order
 abbrev pub log_of : List Timed → Res → List Done
