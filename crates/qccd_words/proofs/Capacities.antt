@@ -1,5 +1,5 @@
 -- The capacity that a preset's word names.
-use Rattle.std.proofs.Common.{rules, inl, inr, ◌⊎◌, ◌^◌, ◌&&◌, nat_le, ◌≡◌, ◌≢◌, ◌↔◌, ℕ, zero, suc, ◌+◌, ◌<◌, ◌≤◌, Bool, true, false, List, [], ◌∷◌, ◌++◌, length, ◌==◌, Option, Some, None, IfSome, find, cond, option_map, subst, codes, decimal, refl, sym, ap, ◌∙◌, arith}
+use Rattle.std.proofs.Common.{rules, ◌^◌, ◌&&◌, nat_le, ◌≡◌, ◌≢◌, ◌↔◌, ℕ, zero, suc, ◌+◌, ◌<◌, ◌≤◌, Bool, true, false, List, [], ◌∷◌, ◌++◌, length, ◌==◌, Option, Some, None, IfSome, find, cond, option_map, option_and_then, unwrap_or, subst, codes, decimal, refl, sym, ap, ◌∙◌, arith}
 use Rattle.std.specs.Char.{is_ascii_digit}
 use Rattle.std.specs.List.{range_with_len, list_all}
 use Rattle.std.specs.Str.{bytes_eq}
@@ -11,9 +11,10 @@ use Rattle.std.proofs.lemmas.List.{append_cancel_left, append-nil}
 use Rattle.std.proofs.lemmas.Option.{same_Some}
 use Rattle.std.proofs.lemmas.Slice.Eq.{bytes_eq-Decides}
 use Rattle.qccd_base.specs.declared.names.Mode.{Mode}
+use Rattle.qccd_base.specs.declared.names.Mode.TheVariants.{IonSwap}
 use Rattle.qccd_machine.specs.declared.place.Preset.{Preset}
 use Rattle.qccd_machine.specs.declared.place.Preset.TheVariants.{L6, G2x3, Single}
-use Rattle.qccd_words.specs.Words.{AskedMachine, OfPreset, OfFile, Asked, AskedRun, AskedCompile, AskedExec, AskedCheck, AskedRehearse, capacities, capacity_after, first_of, preset_named, begins_with_at, machine_of, mode_of, with_mode, run_of, compile_of, exec_of, check_of, number_named, rehearse_asked, rehearse_of, request_of, HasCapacity, IsWithinLimits}
+use Rattle.qccd_words.specs.Words.{AskedMachine, OfPreset, OfFile, Asked, AskedRun, AskedCompile, AskedExec, AskedCheck, AskedRehearse, capacities, capacity_after, first_of, preset_named, begins_with_at, machine_of, mode_named, once, options_of, with_options, run_of, compile_of, exec_of, check_of, number_named, rehearse_asked, rehearse_of, request_of, AreWorkers, HasCapacity, IsWithinLimits}
 
 -- ---- the first number of a range that does
 
@@ -192,12 +193,50 @@ machine_bounds false word m is = let same : OfFile word ≡ m = cc in subst HasC
 
 -- ---- what is asked for is within limits
 
-with_mode_limits : (make : AskedMachine → Mode → Asked) (o : Option AskedMachine) (p : Option Mode) (a : Asked)
-    → ((m : AskedMachine) (mode : Mode) → o ≡ Some m → IsWithinLimits (make m mode)) → with_mode make o p ≡ Some a → IsWithinLimits a
-with_mode_limits make (Some m) (Some mode) a bounds is = subst IsWithinLimits (same_Some (make m mode) a is) (bounds m mode refl)
-with_mode_limits make (Some m) None a bounds is = absurd (cc)
-with_mode_limits make None (Some mode) a bounds is = absurd (cc)
-with_mode_limits make None None a bounds is = absurd (cc)
+-- what a value of an option leads to, if it is the first one
+first_value : {A B : Type 0} (f : A → Option B) (given value : Option A) (b : B)
+    → option_and_then f (once given value) ≡ Some b → (a : A) × (value ≡ Some a) × (f a ≡ Some b)
+first_value f None (Some a) b is = (a, refl, is)
+first_value f None None b is = absurd (cc)
+first_value f (Some old) value b is = absurd (cc)
+
+-- the number of workers is 1 to 16
+at_the_end : (workers : Option ℕ) (mode : Mode) (o : ℕ × Mode) → IfSome workers AreWorkers → Some (unwrap_or workers 4, mode) ≡ Some o → AreWorkers o.0
+at_the_end None mode o few is = subst (λ (x : ℕ × Mode). AreWorkers x.0) (same_Some (4, mode) o is) (omega arith, omega arith)
+at_the_end (Some n) mode o few is = subst (λ (x : ℕ × Mode). AreWorkers x.0) (same_Some (n, mode) o is) few
+
+by_option : (b c : Bool) (o p : Option (ℕ × Mode)) (x : ℕ × Mode) → (o ≡ Some x → AreWorkers x.0) → (p ≡ Some x → AreWorkers x.0)
+    → cond b o (cond c p None) ≡ Some x → AreWorkers x.0
+by_option true c o p x first second is = first is
+by_option false true o p x first second is = second is
+by_option false false o p x first second is = absurd (cc)
+
+options_limits : (words : List (List ℕ)) (workers : Option ℕ) (mode : Option Mode) (o : ℕ × Mode)
+    → IfSome workers AreWorkers → options_of words workers mode ≡ Some o → AreWorkers o.0
+options_limits [] workers mode o few is = at_the_end workers (unwrap_or mode IonSwap) o few is
+options_limits (name ∷ []) workers mode o few is = absurd (cc)
+options_limits (name ∷ value ∷ words) workers mode o few is =
+    by_option (bytes_eq name (codes "--workers")) (bytes_eq name (codes "--swap"))
+    (option_and_then (λ n. options_of words (Some n) mode) (once workers (number_named 1 16 value)))
+    (option_and_then (λ m. options_of words workers (Some m)) (once mode (mode_named value))) o
+    (λ there. let first = first_value (λ n. options_of words (Some n) mode) workers (number_named 1 16 value) o there in
+    options_limits words (Some first.0) mode o (named_within 1 16 first.0 value first.1) first.2)
+    (λ there. let first = first_value (λ m. options_of words workers (Some m)) mode (mode_named value) o there in
+    options_limits words workers (Some first.0) o few first.2) is
+
+-- of a machine and options
+with_options_limits : (make : AskedMachine → ℕ → Mode → Asked) (machine : List ℕ) (words : List (List ℕ)) (workers : Option ℕ) (mode : Option Mode) (a : Asked)
+    → ((m : AskedMachine) (n : ℕ) (mode : Mode) → HasCapacity m → AreWorkers n → IsWithinLimits (make m n mode))
+    → IfSome workers AreWorkers → with_options make (machine_of machine) (options_of words workers mode) ≡ Some a → IsWithinLimits a
+with_options_limits make machine words workers mode a bounds few is =
+    both (machine_of machine) (options_of words workers mode) (machine_bounds (begins_with_at machine) machine) (λ o there. options_limits words workers mode o few there) is
+  where
+    both : (m : Option AskedMachine) (o : Option (ℕ × Mode)) → ((x : AskedMachine) → m ≡ Some x → HasCapacity x) → ((x : ℕ × Mode) → o ≡ Some x → AreWorkers x.0)
+        → with_options make m o ≡ Some a → IsWithinLimits a
+    both (Some m) (Some (n, mode)) capacity few is = subst IsWithinLimits (same_Some (make m n mode) a is) (bounds m n mode (capacity m refl) (few (n, mode) refl))
+    both (Some m) None capacity few is = absurd (cc)
+    both None (Some o) capacity few is = absurd (cc)
+    both None None capacity few is = absurd (cc)
 
 machine_limits : (make : AskedMachine → Asked) (o : Option AskedMachine) (a : Asked)
     → ((m : AskedMachine) → o ≡ Some m → IsWithinLimits (make m)) → option_map make o ≡ Some a → IsWithinLimits a
@@ -208,20 +247,19 @@ run_limits : (words : List (List ℕ)) (a : Asked) → run_of words ≡ Some a �
 run_limits [] a is = absurd (cc)
 run_limits (machine ∷ []) a is = absurd (cc)
 run_limits (machine ∷ circuit ∷ options) a is =
-    with_mode_limits (λ m mode. AskedRun m circuit 4 mode) (machine_of machine) (mode_of options) a (λ m mode there. machine_bounds (begins_with_at machine) machine m there) is
+    with_options_limits (λ m workers mode. AskedRun m circuit workers mode) machine options None None a (λ m n mode capacity few. (capacity, few)) tt is
 
 compile_limits : (words : List (List ℕ)) (a : Asked) → compile_of words ≡ Some a → IsWithinLimits a
 compile_limits [] a is = absurd (cc)
 compile_limits (machine ∷ []) a is = absurd (cc)
 compile_limits (machine ∷ circuit ∷ options) a is =
-    with_mode_limits (λ m mode. AskedCompile m circuit mode) (machine_of machine) (mode_of options) a (λ m mode there. machine_bounds (begins_with_at machine) machine m there) is
+    with_options_limits (λ m workers mode. AskedCompile m circuit mode) machine options (Some 4) None a (λ m n mode capacity few. capacity) (omega arith, omega arith) is
 
 exec_limits : (words : List (List ℕ)) (a : Asked) → exec_of words ≡ Some a → IsWithinLimits a
 exec_limits [] a is = absurd (cc)
 exec_limits (machine ∷ []) a is = absurd (cc)
-exec_limits (machine ∷ program ∷ []) a is =
-    machine_limits (λ m. AskedExec m program 4) (machine_of machine) a (λ m there. machine_bounds (begins_with_at machine) machine m there) is
-exec_limits (machine ∷ program ∷ more ∷ words) a is = absurd (cc)
+exec_limits (machine ∷ program ∷ options) a is =
+    with_options_limits (λ m workers mode. AskedExec m program workers) machine options None (Some IonSwap) a (λ m n mode capacity few. (capacity, few)) tt is
 
 check_limits : (words : List (List ℕ)) (a : Asked) → check_of words ≡ Some a → IsWithinLimits a
 check_limits [] a is = absurd (cc)
@@ -231,34 +269,32 @@ check_limits (machine ∷ circuit ∷ program ∷ []) a is =
     machine_limits (λ m. AskedCheck m circuit program) (machine_of machine) a (λ m there. machine_bounds (begins_with_at machine) machine m there) is
 check_limits (machine ∷ circuit ∷ program ∷ more ∷ words) a is = absurd (cc)
 
-parts_limits : (o p q : Option ℕ) (r : Option AskedMachine) (a : Asked)
+parts_limits : (o p q : Option ℕ) (machine : List ℕ) (words : List (List ℕ)) (a : Asked)
     → ((n : ℕ) → o ≡ Some n → n ≤ 2147483647) → ((n : ℕ) → p ≡ Some n → (1 ≤ n) × (n ≤ 256)) → ((n : ℕ) → q ≡ Some n → n ≤ 65536)
-    → ((m : AskedMachine) → r ≡ Some m → HasCapacity m) → rehearse_asked o p q r ≡ Some a → IsWithinLimits a
-parts_limits (Some number) (Some qubits) (Some items) (Some m) a low some few capacity is =
-    subst IsWithinLimits (same_Some (AskedRehearse number qubits items m 4) a is)
-    (capacity m refl, (low number refl, (some qubits refl).0, (some qubits refl).1, few items refl))
-parts_limits (Some number) (Some qubits) (Some items) None a low some few capacity is = absurd (cc)
-parts_limits (Some number) (Some qubits) None r a low some few capacity is = absurd (cc)
-parts_limits (Some number) None q r a low some few capacity is = absurd (cc)
-parts_limits None p q r a low some few capacity is = absurd (cc)
+    → rehearse_asked o p q (machine_of machine) (options_of words None (Some IonSwap)) ≡ Some a → IsWithinLimits a
+parts_limits (Some number) (Some qubits) (Some items) machine words a low some few is =
+    with_options_limits (λ m workers mode. AskedRehearse number qubits items m workers) machine words None (Some IonSwap) a
+    (λ m n mode capacity workers. (capacity, workers, (low number refl, (some qubits refl).0, (some qubits refl).1, few items refl))) tt is
+parts_limits (Some number) (Some qubits) None machine words a low some few is = absurd (cc)
+parts_limits (Some number) None q machine words a low some few is = absurd (cc)
+parts_limits None p q machine words a low some few is = absurd (cc)
 
 rehearse_limits : (words : List (List ℕ)) (a : Asked) → rehearse_of words ≡ Some a → IsWithinLimits a
 rehearse_limits [] a is = absurd (cc)
 rehearse_limits (v ∷ []) a is = absurd (cc)
 rehearse_limits (v ∷ w ∷ []) a is = absurd (cc)
 rehearse_limits (v ∷ w ∷ x ∷ []) a is = absurd (cc)
-rehearse_limits (v ∷ w ∷ x ∷ y ∷ []) a is =
-    parts_limits (number_named 0 2147483647 v) (number_named 1 256 w) (number_named 0 65536 x) (machine_of y) a
-    (λ n there. (named_within 0 2147483647 n v there).1) (λ n there. named_within 1 256 n w there) (λ n there. (named_within 0 65536 n x there).1)
-    (λ m there. machine_bounds (begins_with_at y) y m there) is
-rehearse_limits (v ∷ w ∷ x ∷ y ∷ z ∷ more) a is = absurd (cc)
+rehearse_limits (v ∷ w ∷ x ∷ y ∷ options) a is =
+    parts_limits (number_named 0 2147483647 v) (number_named 1 256 w) (number_named 0 65536 x) y options a
+    (λ n there. (named_within 0 2147483647 n v there).1) (λ n there. named_within 1 256 n w there) (λ n there. (named_within 0 65536 n x there).1) is
 
 -- by one test or else another
 by_test : (b : Bool) (o p : Option Asked) (a : Asked) → (o ≡ Some a → IsWithinLimits a) → (p ≡ Some a → IsWithinLimits a) → cond b o p ≡ Some a → IsWithinLimits a
 by_test true o p a here there is = here is
 by_test false o p a here there is = there is
 
--- a machine that is asked for by name has a capacity from 2 to 32, and a rehearsal has few qubits and items
+-- a machine that is asked for by name has a capacity from 2 to 32, a program has 1 to 16 workers, and a rehearsal has few
+-- qubits and items
 pub request-limits : (words : List (List ℕ)) (a : Asked) → request_of words ≡ Some a → IsWithinLimits a
 request-limits [] a is = absurd (cc)
 request-limits (command ∷ words) a is =

@@ -1,5 +1,5 @@
 -- What the words of the command line ask for.
-use Rattle.std.specs.Prelude.{ℕ, ◌≤◌, Bool, false, ◌&&◌, ◌==◌, nat_le, List, [], ◌∷◌, ◌++◌, Option, None, Some, option_map, find, codes, decimal, if◌then◌else◌}
+use Rattle.std.specs.Prelude.{ℕ, ◌≤◌, Bool, false, ◌&&◌, ◌==◌, nat_le, List, [], ◌∷◌, ◌++◌, Option, None, Some, option_map, option_and_then, unwrap_or, find, codes, decimal, if◌then◌else◌}
 use Rattle.std.specs.List.{range_with_len}
 use Rattle.std.specs.Str.{bytes_eq}
 use Rattle.std.specs.Str.Parse.{digits_value}
@@ -65,31 +65,48 @@ mode_named word =
     else if bytes_eq word (codes "gate") then Some GateSwap
     else None
 
--- what the words after the circuit's name ask for; where there are none, neighbours are exchanged
-abbrev pub mode_of : List (List ℕ) → Option Mode
-mode_of [] = Some IonSwap
-mode_of (option ∷ value ∷ []) = if bytes_eq option (codes "--swap") then mode_named value else None
-mode_of _ = None
+-- the number from low to high whose text the word is, with no leading zero and no sign
+abbrev pub number_named : (low high : ℕ) → List ℕ → Option ℕ
+number_named low high word =
+    let number = digits_value 10 word in
+    if bytes_eq word (decimal number) && (nat_le low number && nat_le number high) then Some number else None
 
--- what is asked for where a machine and a mode are
-abbrev pub with_mode : (AskedMachine → Mode → Asked) → Option AskedMachine → Option Mode → Option Asked
-with_mode make (Some machine) (Some mode) = Some (make machine mode)
-with_mode make machine None = None
-with_mode make None mode = None
+-- an option's value, if it was not given before
+abbrev pub once : {A : Type 0} → Option A → Option A → Option A
+once None value = value
+once (Some given) value = None
+
+-- How many workers run a program and how two ions change places: by the options in these words, each at most once, and
+-- by what was given of them before. Usually there are 4 workers, and neighbours are exchanged.
+abbrev pub options_of : List (List ℕ) → Option ℕ → Option Mode → Option (ℕ × Mode)
+options_of [] workers mode = Some (unwrap_or workers 4, unwrap_or mode IonSwap)
+options_of (name ∷ value ∷ words) workers mode =
+    if bytes_eq name (codes "--workers") then option_and_then (λ n. options_of words (Some n) mode) (once workers (number_named 1 16 value))
+    else if bytes_eq name (codes "--swap") then option_and_then (λ m. options_of words workers (Some m)) (once mode (mode_named value))
+    else None
+options_of (name ∷ []) workers mode = None
+
+-- what is asked for of this machine with these options
+abbrev pub with_options : (AskedMachine → ℕ → Mode → Asked) → Option AskedMachine → Option (ℕ × Mode) → Option Asked
+with_options make (Some machine) (Some (workers, mode)) = Some (make machine workers mode)
+with_options make machine None = None
+with_options make None (Some options) = None
+
+-- An option that a command does not take stands as given before, so it cannot be given.
 
 -- what the words after `run` ask for
 abbrev pub run_of : List (List ℕ) → Option Asked
-run_of (machine ∷ circuit ∷ options) = with_mode (λ m mode. AskedRun m circuit 4 mode) (machine_of machine) (mode_of options)
+run_of (machine ∷ circuit ∷ options) = with_options (λ m workers mode. AskedRun m circuit workers mode) (machine_of machine) (options_of options None None)
 run_of _ = None
 
 -- what the words after `compile` ask for
 abbrev pub compile_of : List (List ℕ) → Option Asked
-compile_of (machine ∷ circuit ∷ options) = with_mode (λ m mode. AskedCompile m circuit mode) (machine_of machine) (mode_of options)
+compile_of (machine ∷ circuit ∷ options) = with_options (λ m workers mode. AskedCompile m circuit mode) (machine_of machine) (options_of options (Some 4) None)
 compile_of _ = None
 
 -- what the words after `exec` ask for
 abbrev pub exec_of : List (List ℕ) → Option Asked
-exec_of (machine ∷ program ∷ []) = option_map (λ m. AskedExec m program 4) (machine_of machine)
+exec_of (machine ∷ program ∷ options) = with_options (λ m workers mode. AskedExec m program workers) (machine_of machine) (options_of options None (Some IonSwap))
 exec_of _ = None
 
 -- what the words after `check` ask for
@@ -97,24 +114,19 @@ abbrev pub check_of : List (List ℕ) → Option Asked
 check_of (machine ∷ circuit ∷ program ∷ []) = option_map (λ m. AskedCheck m circuit program) (machine_of machine)
 check_of _ = None
 
--- the number from low to high whose text the word is, with no leading zero and no sign
-abbrev pub number_named : (low high : ℕ) → List ℕ → Option ℕ
-number_named low high word =
-    let number = digits_value 10 word in
-    if bytes_eq word (decimal number) && (nat_le low number && nat_le number high) then Some number else None
-
--- the run of the circuit that is made from a number, where all of its parts are asked for
-abbrev pub rehearse_asked : (number qubits items : Option ℕ) → Option AskedMachine → Option Asked
-rehearse_asked (Some number) (Some qubits) (Some items) (Some machine) = Some (AskedRehearse number qubits items machine 4)
-rehearse_asked (Some number) (Some qubits) (Some items) None = None
-rehearse_asked (Some number) (Some qubits) None machine = None
-rehearse_asked (Some number) None items machine = None
-rehearse_asked None qubits items machine = None
+-- the run of the circuit that is made from a number, if all of its parts are there
+abbrev pub rehearse_asked : (number qubits items : Option ℕ) → Option AskedMachine → Option (ℕ × Mode) → Option Asked
+rehearse_asked (Some number) (Some qubits) (Some items) machine options =
+    with_options (λ m workers mode. AskedRehearse number qubits items m workers) machine options
+rehearse_asked (Some number) (Some qubits) None machine options = None
+rehearse_asked (Some number) None items machine options = None
+rehearse_asked None qubits items machine options = None
 
 -- what the words after `rehearse` ask for
 abbrev pub rehearse_of : List (List ℕ) → Option Asked
-rehearse_of (number ∷ qubits ∷ items ∷ machine ∷ []) =
+rehearse_of (number ∷ qubits ∷ items ∷ machine ∷ options) =
     rehearse_asked (number_named 0 2147483647 number) (number_named 1 256 qubits) (number_named 0 65536 items) (machine_of machine)
+    (options_of options None (Some IonSwap))
 rehearse_of _ = None
 
 -- what the words ask for, by the first of them
@@ -149,10 +161,14 @@ HasCapacity (OfFile name) = Unit {0}
 abbrev pub AreFew : (number qubits items : ℕ) → Type 0
 AreFew number qubits items = (number ≤ 2147483647) × (1 ≤ qubits) × (qubits ≤ 256) × (items ≤ 65536)
 
+-- a program is run by 1 to 16 workers
+abbrev pub AreWorkers : ℕ → Type 0
+AreWorkers workers = (1 ≤ workers) × (workers ≤ 16)
+
 -- what is asked for is within these limits
 abbrev pub IsWithinLimits : Asked → Type 0
-IsWithinLimits (AskedRun machine circuit workers mode) = HasCapacity machine
+IsWithinLimits (AskedRun machine circuit workers mode) = HasCapacity machine × AreWorkers workers
 IsWithinLimits (AskedCompile machine circuit mode) = HasCapacity machine
-IsWithinLimits (AskedExec machine program workers) = HasCapacity machine
+IsWithinLimits (AskedExec machine program workers) = HasCapacity machine × AreWorkers workers
 IsWithinLimits (AskedCheck machine circuit program) = HasCapacity machine
-IsWithinLimits (AskedRehearse number qubits items machine workers) = HasCapacity machine × AreFew number qubits items
+IsWithinLimits (AskedRehearse number qubits items machine workers) = HasCapacity machine × AreWorkers workers × AreFew number qubits items

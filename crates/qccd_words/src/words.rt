@@ -1,7 +1,7 @@
 //! What the words of the command line ask for.
 
 ghost use Rattle.std.specs.Prelude.{◌≡◌, ℕ, ◌≤◌, ◌↔◌, map, Some, IfSome, option_map, string_bytes, decimal};
-ghost use Rattle.qccd_words.specs.Words.{asked, machine_asked, capacity_after, preset_named, machine_of, mode_named, mode_of, number_named, check_of, compile_of, exec_of, rehearse_of, request_of, run_of, HasCapacity, IsWithinLimits};
+ghost use Rattle.qccd_words.specs.Words.{asked, machine_asked, capacity_after, preset_named, machine_of, mode_named, number_named, options_of, check_of, compile_of, exec_of, rehearse_of, request_of, run_of, AreWorkers, HasCapacity, IsWithinLimits};
 
 use qccd_base::{Mode, read_number};
 use qccd_machine::Preset;
@@ -16,8 +16,13 @@ const MOST_QUBITS: u64 = 256;
 
 const MOST_ITEMS: u64 = 65536;
 
-/// How many workers run a program, where the words do not say.
+/// How many workers run a program at most, and how many where the words do not say.
+const MOST_WORKERS: u64 = 16;
+
 const USUAL_WORKERS: u8 = 4;
+
+/// How a qubit is brought to the end of its chain, where the words do not say.
+const USUAL_MODE: Mode = Mode::IonSwap;
 
 /// A machine, as a word names it.
 #[derive(Clone, Copy, Debug, PartialEq, Eq, Hash)]
@@ -37,7 +42,7 @@ pub enum Command<'a> {
         machine: MachineWord<'a>,
         /// The name of the circuit's file.
         circuit: &'a str,
-        /// How many workers run the program.
+        /// How many workers run the program: 1 to 16.
         workers: u8,
         mode: Mode,
     },
@@ -53,7 +58,7 @@ pub enum Command<'a> {
         machine: MachineWord<'a>,
         /// The name of the program's file.
         program: &'a str,
-        /// How many workers run the program.
+        /// How many workers run the program: 1 to 16.
         workers: u8,
     },
     /// Compare the program of a text, on a machine, with a circuit.
@@ -73,7 +78,7 @@ pub enum Command<'a> {
         /// How many items the circuit has: at most 65,536.
         items: u32,
         machine: MachineWord<'a>,
-        /// How many workers run the program.
+        /// How many workers run the program: 1 to 16.
         workers: u8,
     },
 }
@@ -81,13 +86,15 @@ pub enum Command<'a> {
 /// What the words ask for, or `None` where they are of no form that is known. The words are those
 /// after the program's own name. It takes no memory.
 ///
-/// For now five forms are known: `run MACHINE CIRCUIT` and `compile MACHINE CIRCUIT`, after each of which
-/// `--swap ion` or `--swap gate` may stand, where it does not, it is `ion`; `exec MACHINE PROGRAM`; `check MACHINE
-/// CIRCUIT PROGRAM`; and `rehearse NUMBER QUBITS ITEMS MACHINE`, with a number of at most 2,147,483,647, 1 to 256
+/// There are five forms: `run MACHINE CIRCUIT`, `compile MACHINE CIRCUIT`, `exec MACHINE PROGRAM`, `check MACHINE
+/// CIRCUIT PROGRAM` and `rehearse NUMBER QUBITS ITEMS MACHINE`, with a number of at most 2,147,483,647, 1 to 256
 /// qubits and at most 65,536 items. The machine is `@L6`, `@G2x3` or `@single`, or one of these with a colon and a
-/// capacity from 2 to 32, or any word that does not begin with `@`, which is the name of a file. No number has a
-/// sign or a leading zero. The circuit and the program are any word as it stands. An empty word is the name of a
-/// file, too.
+/// capacity from 2 to 32, or any word that does not begin with `@`, which is the name of a file. The circuit and the
+/// program are any word as it stands. An empty word is the name of a file, too.
+///
+/// Options follow, in any order and each at most once: `--workers` with a number from 1 to 16 (4 if it is not given)
+/// after `run`, `exec` and `rehearse`, and `--swap` with `ion` or `gate` (`ion` if it is not given) after `run` and
+/// `compile`. No number has a sign or a leading zero.
 pub fn request(words: &[String]) -> Option<Command<'_>>
     ensures asked { option_map asked result ≡ request_of (map string_bytes words.now) }
     ensures limits { IfSome result (λ c. IsWithinLimits (asked c)) }
@@ -107,15 +114,17 @@ fn run_words(words: &[String]) -> Option<Command<'_>>
     ensures asked { option_map asked result ≡ run_of (map string_bytes words.now) }
     ensures limits { IfSome result (λ c. IsWithinLimits (asked c)) }
 {
-    match words {
-        [machine, circuit, options @ ..] => Some(Command::Run {
-            machine: machine_word(machine.as_str())?,
-            circuit: circuit.as_str(),
-            workers: USUAL_WORKERS,
-            mode: mode_words(options)?,
-        }),
-        _ => None,
-    }
+    let [machine, circuit, options @ ..] = words else {
+        return None;
+    };
+    let machine = machine_word(machine.as_str())?;
+    let (workers, mode) = option_words(options, None, None)?;
+    Some(Command::Run {
+        machine,
+        circuit: circuit.as_str(),
+        workers,
+        mode,
+    })
 }
 
 // The compiling that the words after the first one ask for.
@@ -123,14 +132,16 @@ fn compile_words(words: &[String]) -> Option<Command<'_>>
     ensures asked { option_map asked result ≡ compile_of (map string_bytes words.now) }
     ensures limits { IfSome result (λ c. IsWithinLimits (asked c)) }
 {
-    match words {
-        [machine, circuit, options @ ..] => Some(Command::Compile {
-            machine: machine_word(machine.as_str())?,
-            circuit: circuit.as_str(),
-            mode: mode_words(options)?,
-        }),
-        _ => None,
-    }
+    let [machine, circuit, options @ ..] = words else {
+        return None;
+    };
+    let machine = machine_word(machine.as_str())?;
+    let (_, mode) = option_words(options, Some(USUAL_WORKERS), None)?;
+    Some(Command::Compile {
+        machine,
+        circuit: circuit.as_str(),
+        mode,
+    })
 }
 
 // The run of a program that the words after the first one ask for.
@@ -138,14 +149,16 @@ fn exec_words(words: &[String]) -> Option<Command<'_>>
     ensures asked { option_map asked result ≡ exec_of (map string_bytes words.now) }
     ensures limits { IfSome result (λ c. IsWithinLimits (asked c)) }
 {
-    match words {
-        [machine, program] => Some(Command::Exec {
-            machine: machine_word(machine.as_str())?,
-            program: program.as_str(),
-            workers: USUAL_WORKERS,
-        }),
-        _ => None,
-    }
+    let [machine, program, options @ ..] = words else {
+        return None;
+    };
+    let machine = machine_word(machine.as_str())?;
+    let (workers, _) = option_words(options, None, Some(USUAL_MODE))?;
+    Some(Command::Exec {
+        machine,
+        program: program.as_str(),
+        workers,
+    })
 }
 
 // The comparison that the words after the first one ask for.
@@ -168,19 +181,20 @@ fn rehearsal_words(words: &[String]) -> Option<Command<'_>>
     ensures asked { option_map asked result ≡ rehearse_of (map string_bytes words.now) }
     ensures limits { IfSome result (λ c. IsWithinLimits (asked c)) }
 {
-    let [number, qubits, items, machine] = words else {
+    let [number, qubits, items, machine, options @ ..] = words else {
         return None;
     };
     let number = number_word(number.as_str(), 0, GREATEST_NUMBER)?;
     let qubits = number_word(qubits.as_str(), 1, MOST_QUBITS)?;
     let items = number_word(items.as_str(), 0, MOST_ITEMS)?;
     let machine = machine_word(machine.as_str())?;
+    let (workers, _) = option_words(options, None, Some(USUAL_MODE))?;
     Some(Command::Rehearse {
         number: number as u32,
         qubits: qubits as u16,
         items: items as u32,
         machine,
-        workers: USUAL_WORKERS,
+        workers,
     })
 }
 
@@ -195,15 +209,37 @@ fn number_word(word: &str, low: u64, high: u64) -> Option<u64>
     }
 }
 
-// The mode that the words after the circuit's name ask for.
-fn mode_words(options: &[String]) -> Option<Mode>
-    ensures { result ≡ mode_of (map string_bytes options.now) }
+// How many workers run a program and how a qubit comes to the end of its chain: by the options in the words, and by
+// what was given of them before. An option that a command does not take is given before.
+fn option_words(words: &[String], workers: Option<u8>, mode: Option<Mode>) -> Option<(u8, Mode)>
+    requires workers { IfSome workers AreWorkers }
+    ensures options { result ≡ options_of (map string_bytes words.now) workers mode }
+    ensures workers { IfSome result (λ options. AreWorkers options.0) }
 {
-    match options {
-        [] => Some(Mode::IonSwap),
-        [option, value] if option.as_str() == "--swap" => mode_word(value.as_str()),
+    match words {
+        [] => Some((workers.unwrap_or(USUAL_WORKERS), mode.unwrap_or(USUAL_MODE))),
+        [name, value, words @ ..] => match name.as_str() {
+            "--workers" if workers.is_none() => {
+                let workers = worker_word(value.as_str())?;
+                option_words(words, Some(workers), mode)
+            }
+            "--swap" if mode.is_none() => {
+                let mode = mode_word(value.as_str())?;
+                option_words(words, workers, Some(mode))
+            }
+            _ => None,
+        },
         _ => None,
     }
+}
+
+// The number of workers that the word names.
+fn worker_word(word: &str) -> Option<u8>
+    ensures named { result ≡ number_named 1 16 word.now }
+    ensures within { IfSome result AreWorkers }
+{
+    let workers = number_word(word, 1, MOST_WORKERS)?;
+    Some(workers as u8)
 }
 
 // The mode that the word names.

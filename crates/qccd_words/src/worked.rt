@@ -3,7 +3,7 @@
 ghost use Rattle.std.specs.Prelude.{◌≡◌, [], ◌∷◌, Some, None, codes};
 ghost use Rattle.qccd_base.specs.declared.names.Mode.TheVariants.{IonSwap, GateSwap};
 ghost use Rattle.qccd_machine.specs.declared.place.Preset.TheVariants.{L6, G2x3, Single};
-ghost use Rattle.qccd_words.specs.Words.{AskedRehearse, AskedRun, OfPreset, OfFile, machine_of, number_named, request_of};
+ghost use Rattle.qccd_words.specs.Words.{AskedExec, AskedRehearse, AskedRun, OfPreset, OfFile, machine_of, number_named, options_of, request_of};
 
 /// A run in one trap of at most two ions, with the usual workers and mode, and a number with a
 /// leading zero in place of the two, which asks for nothing.
@@ -14,6 +14,30 @@ pub fn run_in_one_trap()
         ≡ Some (AskedRun (OfPreset Single 2) (codes "a") 4 GateSwap) }
     ensures no_value { request_of (codes "run" ∷ codes "@single:2" ∷ codes "a" ∷ codes "--swap" ∷ []) ≡ None }
     ensures leading_zero { request_of (codes "run" ∷ codes "@single:02" ∷ codes "a" ∷ []) ≡ None }
+{}
+
+/// The options of a run: one alone, and both in either order; and words that are none: an option twice, what is no
+/// number of workers, and an option with no value. What stands in the place of the circuit is its name.
+pub fn options_of_a_run()
+    ensures workers { options_of (codes "--workers" ∷ codes "1" ∷ []) None None ≡ Some (1, IonSwap) }
+    ensures workers_first { options_of (codes "--workers" ∷ codes "16" ∷ codes "--swap" ∷ codes "gate" ∷ []) None None ≡ Some (16, GateSwap) }
+    ensures mode_first { options_of (codes "--swap" ∷ codes "gate" ∷ codes "--workers" ∷ codes "16" ∷ []) None None ≡ Some (16, GateSwap) }
+    ensures twice { options_of (codes "--workers" ∷ codes "4" ∷ codes "--workers" ∷ codes "4" ∷ []) None None ≡ None }
+    ensures no_worker { options_of (codes "--workers" ∷ codes "0" ∷ []) None None ≡ None }
+    ensures too_many { options_of (codes "--workers" ∷ codes "17" ∷ []) None None ≡ None }
+    ensures leading_zero { options_of (codes "--workers" ∷ codes "04" ∷ []) None None ≡ None }
+    ensures no_value { options_of (codes "--workers" ∷ []) None None ≡ None }
+    ensures circuit { request_of (codes "run" ∷ codes "@single" ∷ codes "--workers" ∷ [])
+        ≡ Some (AskedRun (OfPreset Single 16) (codes "--workers") 4 IonSwap) }
+{}
+
+/// Which of the options the other commands take.
+pub fn options_of_the_others()
+    ensures exec { request_of (codes "exec" ∷ codes "@single" ∷ codes "p" ∷ codes "--workers" ∷ codes "2" ∷ [])
+        ≡ Some (AskedExec (OfPreset Single 16) (codes "p") 2) }
+    ensures exec_swap { request_of (codes "exec" ∷ codes "@single" ∷ codes "p" ∷ codes "--swap" ∷ codes "ion" ∷ []) ≡ None }
+    ensures compile_workers { request_of (codes "compile" ∷ codes "@single" ∷ codes "a" ∷ codes "--workers" ∷ codes "4" ∷ []) ≡ None }
+    ensures check_workers { request_of (codes "check" ∷ codes "@single" ∷ codes "a" ∷ codes "p" ∷ codes "--workers" ∷ codes "4" ∷ []) ≡ None }
 {}
 
 /// What words name as a machine.
@@ -34,6 +58,8 @@ pub fn rehearsal_in_one_trap()
         ≡ Some (AskedRehearse 1 3 4 (OfPreset Single 4) 4) }
     ensures no_qubit { request_of (codes "rehearse" ∷ codes "1" ∷ codes "0" ∷ codes "4" ∷ codes "@L6" ∷ []) ≡ None }
     ensures too_many { request_of (codes "rehearse" ∷ codes "1" ∷ codes "3" ∷ codes "4" ∷ codes "@L6" ∷ codes "a" ∷ []) ≡ None }
+    ensures workers { request_of (codes "rehearse" ∷ codes "1" ∷ codes "3" ∷ codes "4" ∷ codes "@single:4" ∷ codes "--workers" ∷ codes "1" ∷ [])
+        ≡ Some (AskedRehearse 1 3 4 (OfPreset Single 4) 1) }
     ensures too_few { request_of (codes "rehearse" ∷ codes "1" ∷ codes "3" ∷ codes "4" ∷ []) ≡ None }
 {}
 

@@ -19,3 +19,7 @@ returns-clause-too_many c = refl
 pub returns-clause-too_few : goal.returns-clause-too_few
 unfolding digits capacities
 returns-clause-too_few c = refl
+
+pub returns-clause-workers : goal.returns-clause-workers
+unfolding digits capacities
+returns-clause-workers c = refl
