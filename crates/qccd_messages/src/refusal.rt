@@ -10,7 +10,7 @@ use loader::LoadFault;
 use machine_text::TextFault;
 use meaning_check::Verdict;
 use qasm_reader::QasmKind;
-use qccd_base::number_text;
+use qccd_base::{NoMemory, number_text};
 use qccd_io::{Failed, Sink, send, send_all};
 use transport_asm::AsmKind;
 
@@ -50,6 +50,17 @@ pub enum Refusal<'a> {
     NotSame { verdict: Verdict },
     /// Memory ran out.
     NoMemory,
+}
+
+impl<'a> From<NoMemory> for Refusal<'a> {
+    ghost use Rattle.std.specs.Prelude.{◌≡◌};
+    ghost use Rattle.qccd_messages.specs.declared.refusal.Refusal.TheVariants.{NoMemory};
+
+    ghost from_gives = { λ _ r. r ≡ NoMemory };
+
+    fn from(_refused: NoMemory) -> Refusal<'a> {
+        Refusal::NoMemory
+    }
 }
 
 impl Refusal<'_> {

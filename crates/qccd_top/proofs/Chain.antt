@@ -1,6 +1,7 @@
 -- What follows where one stage comes after another.
 use Rattle.std.proofs.Common.{◌≡◌, ℕ, inl, inr, List, Option, Some, None, Result, Ok, Err, IsErrAnd, refl, sym, ◌∙◌, subst, arith}
 use Rattle.qccd_messages.specs.declared.refusal.Refusal.{Refusal}
+use Rattle.qccd_messages.specs.declared.refusal.Refusal.TheVariants as refusal
 use Rattle.qccd_messages.specs.Cause.{Cause, Words, Read, Write, NoMemory, cause_of}
 use Rattle.qccd_io.specs.Faults.{Rose}
 use Rattle.qccd_io.specs.Shelf.{Holding}
@@ -196,6 +197,16 @@ pub does_write : {X Y : Type 0} (told : X → Option Holding) (faults : X → �
 does_write told faults taken out_faults old out_old out_new text (Ok u) writes = record { did = writes.did; same = refl; count = omega arith; out_count = writes.count }
 does_write told faults taken out_faults old out_old out_new text (Err e) writes =
     record { did = wrote_did text _ (output taken out_faults out_old out_new) (cause_of e) writes.did; same = refl; count = omega arith; out_count = writes.count }
+
+-- out of memory before anything is written
+pub does_starve : {X Y : Type 0} (told : X → Option Holding) (faults : X → ℕ) (taken : Y → Option (List ℕ)) (out_faults : Y → ℕ) (old : X) (out : Y)
+    (text_of : Option Holding → Stage (List ℕ)) (r : Result (Unit {0}) Refusal) → IsErrAnd r (λ y. y ≡ refusal.NoMemory) → Does told faults taken out_faults old old out out text_of r
+does_starve told faults taken out_faults old out text_of r starved = record {
+  did = did_stop (text_of (told old)) _ (output taken out_faults out out) r refusal.NoMemory refl tt starved;
+  same = refl;
+  count = omega arith;
+  out_count = omega arith;
+}
 
 -- ---- the words
 

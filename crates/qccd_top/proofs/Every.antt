@@ -1,5 +1,5 @@
 -- Each stage has an answer, where the shelf tells what it holds.
-use Rattle.std.proofs.Common.{◌≡◌, ◌≢◌, ℕ, zero, suc, ◌-◌, ◌<◌, ◌≤◌, ◌⊎◌, inl, inr, List, length, Option, Some, None, refl, sym, subst, arith}
+use Rattle.std.proofs.Common.{◌≡◌, ℕ, zero, suc, ◌-◌, ◌<◌, ◌≤◌, ◌⊎◌, inl, inr, List, length, Option, Some, None, refl, subst, arith}
 use Rattle.std.proofs.lemmas.Bool.{cases_lt}
 use Rattle.qccd_base.specs.declared.names.Mode.{Mode}
 use Rattle.qccd_base.specs.declared.names.Mode.TheVariants.{IonSwap}
@@ -25,7 +25,7 @@ use Rattle.qccd_messages.specs.Cause.{Cause, Words, Read, TooLarge, Machine, Cir
 use Rattle.qccd_top.specs.declared.limits.TheConstants.{CIRCUIT_LIMIT, MACHINE_LIMIT, PROGRAM_LIMIT}
 use Rattle.qccd_top.specs.Stage.{Gives, Refuses, Stage, ◌>>=◌, Just}
 use Rattle.qccd_top.specs.Stages.{WordsOf, FileIn, MachineOf, MachineIn, CircuitOf, CircuitIn, Compiled, RawOf, RawIn, LoadedOn, ProgramIn, SameAs}
-use Rattle.qccd_top.specs.Means.{CompiledIn, LoadedIn, CheckedIn, RehearsedIn, TextOf, TextFor}
+use Rattle.qccd_top.specs.Means.{CompiledIn, CheckedIn, TextOf, TextFor}
 use Rattle.qccd_top.specs.Done.{IsDueFor, IsDue}
 use Rattle.qccd_top.proofs.Headline.{read_in}
 

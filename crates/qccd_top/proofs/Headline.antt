@@ -136,7 +136,7 @@ unfolding ◌>>=◌
 report_of call asks text means =
     let run = AskedRun asks.word asks.name asks.workers asks.mode in
     let (p, given, report) = meaning call run text asks.asked means in
-    (p, compiled call.told asks.word asks.name asks.mode p (request-limits call.words run asks.asked) given, report)
+    (p, compiled call.told asks.word asks.name asks.mode p (request-limits call.words run asks.asked).0 given, report)
 
 pub headline : (call : Call) (asks : AsksRun call.words) → IsDone call → IsReported call asks
 headline call asks done =
@@ -170,7 +170,7 @@ executed call asks done =
     let (p, given, text) = meaning call exec done.text asks.asked done.means in
     record {
       program = p;
-      is_loaded = loaded call.told asks.word asks.name p (request-limits call.words exec asks.asked) given;
+      is_loaded = loaded call.told asks.word asks.name p (request-limits call.words exec asks.asked).0 given;
       written = done.written ∙ ap (appended call.out.old) text;
     }
 
@@ -194,7 +194,7 @@ summary_of : (call : Call) (asks : AsksRehearsal call.words) (text : List ℕ)
 unfolding ◌>>=◌
 summary_of call asks text (p, (m, machine, is), summary) =
     let limits = request-limits call.words (AskedRehearse asks.number asks.qubits asks.items asks.word asks.workers) asks.asked in
-    let few = limits.1 in
+    let few = limits.2 in
     let valid = valid_in call.told asks.word m limits.0 machine in
     let c = generated asks.number asks.qubits asks.items in
     let whole = generated_circuit asks.number asks.qubits asks.items few.1 few.2 few.3 in

@@ -1,5 +1,5 @@
 -- Each stage that refuses decides the status, whatever the command.
-use Rattle.std.proofs.Common.{◌≡◌, ℕ, ◌<◌, inl, inr, List, length, Option, Some, None, refl, sym, subst}
+use Rattle.std.proofs.Common.{◌≡◌, ℕ, inl, inr, List, Some, refl, sym, subst}
 use Rattle.std.proofs.lemmas.Option.{same_Some}
 use Rattle.qccd_base.specs.declared.names.Mode.{Mode}
 use Rattle.qccd_base.specs.declared.names.Mode.TheVariants.{IonSwap}
@@ -10,7 +10,7 @@ use Rattle.rehearsal.specs.Generated.{generated}
 use Rattle.qccd_words.specs.Words.{AskedMachine, OfFile, Asked, AskedRun, AskedCompile, AskedExec, AskedCheck, AskedRehearse, request_of}
 use Rattle.qccd_messages.specs.Cause.{Cause, status_of}
 use Rattle.qccd_top.specs.declared.limits.TheConstants.{CIRCUIT_LIMIT, MACHINE_LIMIT, PROGRAM_LIMIT}
-use Rattle.qccd_top.specs.Stage.{Gives, Refuses, Stage, ◌>>=◌}
+use Rattle.qccd_top.specs.Stage.{Gives, Refuses, ◌>>=◌}
 use Rattle.qccd_top.specs.Stages.{FileIn, MachineIn, CircuitIn, Compiled, ProgramIn}
 use Rattle.qccd_top.specs.Means.{TextOf, HoldsCircuit, word_of, circuit_file, program_file, compiling_mode}
 use Rattle.qccd_top.specs.Done.{IsDue}

@@ -2,23 +2,25 @@
 
 ghost use Rattle.std.specs.Prelude.{◌≡◌, None, IsErrAnd, map, string_bytes};
 ghost use Rattle.qccd_io.specs.Shelf.{NoneIsOut};
-ghost use Rattle.qccd_words.specs.Words.{AskedRun, AskedCompile, AskedExec, AskedCheck, AskedRehearse, asked, machine_asked, request_of, AreFew, HasCapacity, IsWithinLimits};
+ghost use Rattle.qccd_words.specs.Words.{AskedRun, AskedCompile, AskedExec, AskedCheck, AskedRehearse, asked, machine_asked, request_of, AreFew, AreWorkers, HasCapacity, IsWithinLimits};
 ghost use Rattle.qccd_messages.specs.Cause.{Words, cause_of};
 ghost use Rattle.qccd_top.specs.Means.{TextFor, TextOf};
 ghost use Rattle.qccd_top.specs.Done.{Does};
 
+use crate::crew::Crew;
 use crate::output::{write_report, write_same, write_summary, write_text};
 use crate::programs::{checked_in, loaded_in};
 use crate::stages::{compiled_in, rehearsed_in};
 use qccd_base::Mode;
-use qccd_io::{Shelf, Sink};
+use qccd_io::{Post, Shelf, Sink};
 use qccd_messages::Refusal;
 use qccd_words::{Command, MachineWord, request};
 use std::alloc::Global;
+use std::thread::Threads;
 
 /// Writes the text that the words ask for, or says why not.
-pub fn answer<'a, F: Shelf, O: Sink>(
-    alloc: Global,
+pub fn answer<'a, R: Threads + Sync, P: Post, F: Shelf, O: Sink>(
+    crew: &Crew<'_, R, P>,
     words: &'a [String],
     shelf: &mut F,
     out: &mut O,
@@ -30,13 +32,13 @@ pub fn answer<'a, F: Shelf, O: Sink>(
 {
     match request(words) {
         None => Err(Refusal::Words),
-        Some(command) => obey(alloc, command, shelf, out),
+        Some(command) => obey(crew, command, shelf, out),
     }
 }
 
 /// Does what the command asks for.
-fn obey<'a, F: Shelf, O: Sink>(
-    alloc: Global,
+fn obey<'a, R: Threads + Sync, P: Post, F: Shelf, O: Sink>(
+    crew: &Crew<'_, R, P>,
     command: Command<'a>,
     shelf: &mut F,
     out: &mut O,
@@ -51,35 +53,35 @@ fn obey<'a, F: Shelf, O: Sink>(
             circuit,
             workers,
             mode,
-        } => run(alloc, machine, circuit, workers, mode, shelf, out),
+        } => run(crew, machine, circuit, workers, mode, shelf, out),
         Command::Compile {
             machine,
             circuit,
             mode,
-        } => compile(alloc, machine, circuit, mode, shelf, out),
+        } => compile(crew.alloc, machine, circuit, mode, shelf, out),
         Command::Exec {
             machine,
             program,
             workers,
-        } => exec(alloc, machine, program, workers, shelf, out),
+        } => exec(crew, machine, program, workers, shelf, out),
         Command::Check {
             machine,
             circuit,
             program,
-        } => check(alloc, machine, circuit, program, shelf, out),
+        } => check(crew.alloc, machine, circuit, program, shelf, out),
         Command::Rehearse {
             number,
             qubits,
             items,
             machine,
             workers,
-        } => rehearse(alloc, number, qubits, items, machine, workers, shelf, out),
+        } => rehearse(crew, number, qubits, items, machine, workers, shelf, out),
     }
 }
 
-/// Compiles the circuit of the file of this name and writes the report of its program.
-fn run<'a, F: Shelf, O: Sink>(
-    alloc: Global,
+/// Compiles the circuit of the file of this name, runs its program and writes the report.
+fn run<'a, R: Threads + Sync, P: Post, F: Shelf, O: Sink>(
+    crew: &Crew<'_, R, P>,
     machine: MachineWord<'a>,
     circuit: &'a str,
     workers: u8,
@@ -89,10 +91,12 @@ fn run<'a, F: Shelf, O: Sink>(
 ) -> Result<(), Refusal<'a>>
     requires inside { NoneIsOut (F.told shelf.old) }
     requires capacity { HasCapacity (machine_asked machine) }
+    requires workers { AreWorkers workers }
     ensures { Does F.told F.faults O.taken O.faults shelf.old shelf.new out.old out.new (λ told. TextOf told (AskedRun (machine_asked machine.entry) circuit.now workers mode)) result }
 {
-    let program = compiled_in(alloc, shelf, machine, circuit, mode)?;
-    write_report(alloc, &program, out)
+    let program = compiled_in(crew.alloc, shelf, machine, circuit, mode)?;
+    let cells = crew.execute(&program, workers)?;
+    write_report(crew.alloc, &program, &cells, out)
 }
 
 /// Compiles the circuit of the file of this name and writes the text of its program.
@@ -112,9 +116,9 @@ fn compile<'a, F: Shelf, O: Sink>(
     write_text(alloc, &program, out)
 }
 
-/// Loads the program of the file of this name and writes its report.
-fn exec<'a, F: Shelf, O: Sink>(
-    alloc: Global,
+/// Loads the program of the file of this name, runs it and writes its report.
+fn exec<'a, R: Threads + Sync, P: Post, F: Shelf, O: Sink>(
+    crew: &Crew<'_, R, P>,
     machine: MachineWord<'a>,
     program: &'a str,
     workers: u8,
@@ -123,10 +127,12 @@ fn exec<'a, F: Shelf, O: Sink>(
 ) -> Result<(), Refusal<'a>>
     requires inside { NoneIsOut (F.told shelf.old) }
     requires capacity { HasCapacity (machine_asked machine) }
+    requires workers { AreWorkers workers }
     ensures { Does F.told F.faults O.taken O.faults shelf.old shelf.new out.old out.new (λ told. TextOf told (AskedExec (machine_asked machine.entry) program.now workers)) result }
 {
-    let loaded = loaded_in(alloc, shelf, machine, program)?;
-    write_report(alloc, &loaded, out)
+    let loaded = loaded_in(crew.alloc, shelf, machine, program)?;
+    let cells = crew.execute(&loaded, workers)?;
+    write_report(crew.alloc, &loaded, &cells, out)
 }
 
 /// Loads the program of the one file and compares it with the circuit of the other.
@@ -146,9 +152,9 @@ fn check<'a, F: Shelf, O: Sink>(
     write_same(out)
 }
 
-/// Compiles the circuit that is generated from the number and writes the summary of its program.
-fn rehearse<'a, F: Shelf, O: Sink>(
-    alloc: Global,
+/// Compiles the circuit that is generated from the number, runs its program and writes the summary.
+fn rehearse<'a, R: Threads + Sync, P: Post, F: Shelf, O: Sink>(
+    crew: &Crew<'_, R, P>,
     number: u32,
     qubits: u16,
     items: u32,
@@ -159,9 +165,11 @@ fn rehearse<'a, F: Shelf, O: Sink>(
 ) -> Result<(), Refusal<'a>>
     requires inside { NoneIsOut (F.told shelf.old) }
     requires capacity { HasCapacity (machine_asked machine) }
+    requires workers { AreWorkers workers }
     requires few { AreFew number qubits items }
     ensures { Does F.told F.faults O.taken O.faults shelf.old shelf.new out.old out.new (λ told. TextOf told (AskedRehearse number qubits items (machine_asked machine.entry) workers)) result }
 {
-    let program = rehearsed_in(alloc, shelf, machine, number, qubits, items)?;
-    write_summary(alloc, &program, number, items, out)
+    let program = rehearsed_in(crew.alloc, shelf, machine, number, qubits, items)?;
+    let cells = crew.execute(&program, workers)?;
+    write_summary(crew.alloc, &program, &cells, number, items, out)
 }

@@ -2,6 +2,7 @@
 #![tactic(auto)]
 
 mod answer;
+mod crew;
 mod edge;
 pub mod laws;
 mod limits;

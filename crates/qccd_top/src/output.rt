@@ -12,46 +12,51 @@ ghost use Rattle.qccd_top.specs.Done.{Writes};
 use op_cells::Cells;
 use qccd_io::{Buffer, Buffered, Failed, Sink, send};
 use qccd_messages::Refusal;
-use qccd_program::{Program, run_in_order};
+use qccd_program::Program;
 use std::alloc::Global;
 use tracer::ReportFault;
 use transport_asm::write_program;
 
-/// Runs the program, and writes its report.
+/// Writes the report of a program, from its cells at the end.
+#[tactic(auto, using(qccd_io::proofs::Appended::buffers))]
 pub fn write_report<'a, O: Sink>(
     alloc: Global,
     program: &Program,
+    cells: &Cells,
     out: &mut O,
 ) -> Result<(), Refusal<'a>>
+    requires { AtEnd program.now cells.now }
     ensures { Writes O.taken O.faults out.old out.new (report_text program.now) result }
 {
-    let Ok(mut cells) = program.first_cells(alloc) else {
-        return Err(Refusal::NoMemory);
-    };
-    run_in_order(program, &mut cells);
-    send_report(alloc, program, &cells, out)
-}
-
-/// Runs the program of a rehearsal, and writes its summary.
-#[tactic(auto, using(qccd_io::proofs::Appended::buffers))]
-pub fn write_summary<'a, O: Sink>(
-    alloc: Global,
-    program: &Program,
-    number: u32,
-    items: u32,
-    out: &mut O,
-) -> Result<(), Refusal<'a>>
-    ensures { Writes O.taken O.faults out.old out.new (summary_text program.now number items) result }
-{
-    let Ok(mut cells) = program.first_cells(alloc) else {
-        return Err(Refusal::NoMemory);
-    };
-    run_in_order(program, &mut cells);
     let Ok(mut buffer) = Buffer::of(alloc) else {
         return Err(Refusal::NoMemory);
     };
     let mut buffered = Buffered::of(&mut buffer, out);
-    match tracer::write_summary(program, &cells, number, items, &mut buffered) {
+    match tracer::write_report(alloc, program, cells, &mut buffered) {
+        Err(ReportFault::Write) => Err(Refusal::Write),
+        Err(ReportFault::NoMemory) => Err(Refusal::NoMemory),
+        Ok(()) => finish(buffered),
+    }
+}
+
+/// Writes the summary of the program of a rehearsal, from its cells at the end.
+#[tactic(auto, using(qccd_io::proofs::Appended::buffers))]
+pub fn write_summary<'a, O: Sink>(
+    alloc: Global,
+    program: &Program,
+    cells: &Cells,
+    number: u32,
+    items: u32,
+    out: &mut O,
+) -> Result<(), Refusal<'a>>
+    requires { AtEnd program.now cells.now }
+    ensures { Writes O.taken O.faults out.old out.new (summary_text program.now number items) result }
+{
+    let Ok(mut buffer) = Buffer::of(alloc) else {
+        return Err(Refusal::NoMemory);
+    };
+    let mut buffered = Buffered::of(&mut buffer, out);
+    match tracer::write_summary(program, cells, number, items, &mut buffered) {
         Err(Failed) => Err(Refusal::Write),
         Ok(()) => finish(buffered),
     }
@@ -83,28 +88,6 @@ pub fn write_same<'a, O: Sink>(out: &mut O) -> Result<(), Refusal<'a>>
     match send(out, b"same\n") {
         Err(Failed) => Err(Refusal::Write),
         Ok(()) => Ok(()),
-    }
-}
-
-/// Writes the report of a program from its cells at the end.
-#[tactic(auto, using(qccd_io::proofs::Appended::buffers))]
-fn send_report<'a, O: Sink>(
-    alloc: Global,
-    program: &Program,
-    cells: &Cells,
-    out: &mut O,
-) -> Result<(), Refusal<'a>>
-    requires { AtEnd program.now cells.now }
-    ensures { Writes O.taken O.faults out.old out.new (report_text program.now) result }
-{
-    let Ok(mut buffer) = Buffer::of(alloc) else {
-        return Err(Refusal::NoMemory);
-    };
-    let mut buffered = Buffered::of(&mut buffer, out);
-    match tracer::write_report(alloc, program, cells, &mut buffered) {
-        Err(ReportFault::Write) => Err(Refusal::Write),
-        Err(ReportFault::NoMemory) => Err(Refusal::NoMemory),
-        Ok(()) => finish(buffered),
     }
 }
 

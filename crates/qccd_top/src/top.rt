@@ -7,6 +7,7 @@ ghost use Rattle.qccd_top.specs.Call.{call_of, output};
 ghost use Rattle.qccd_top.specs.Promises.{Promises};
 
 use crate::answer::answer;
+use crate::crew::Crew;
 use qccd_io::{Post, Shelf, Sink};
 use qccd_messages::tell;
 use std::alloc::Global;
@@ -18,7 +19,8 @@ use std::thread::Threads;
 pub struct Status(pub u8);
 
 /// Does what the words ask for, and says with which status the program ends. The words are those
-/// after the program's own name.
+/// after the program's own name. A program is run by as many workers as they say, each in a thread of its own, and
+/// `post` is told each operation that a worker does. What they leave is done by the caller, without telling it.
 ///
 /// With status 0 `out` took the report, the text of a program, that a program is the same as a circuit, or
 /// the summary of a rehearsal. With 4 a write failed, and `out` took a prefix of it; with any other status it
@@ -29,13 +31,13 @@ pub struct Status(pub u8);
 /// words; the machine's file and the machine; the circuit's file and the circuit; its qubits; the program's
 /// length; the program's file and the program; the comparison; the writing. A fault of `err` changes no status.
 pub fn run<R: Threads + Sync, F: Shelf, O: Sink, E: Sink, P: Post>(
-    _rt: &R,
+    rt: &R,
     alloc: Global,
     words: &[String],
     shelf: &mut F,
     out: &mut O,
     err: &mut E,
-    _post: &P,
+    post: &P,
 ) -> Status
     requires { NoneIsOut (F.told shelf.old) }
     // What each status says of what was written and told, command by command, is in `Promises`.
@@ -44,7 +46,8 @@ pub fn run<R: Threads + Sync, F: Shelf, O: Sink, E: Sink, P: Post>(
     ensures same { F.told shelf.new ≡ F.told shelf.old }
     ensures err_further { Further (E.behind err.old) (E.behind err.new) }
 {
-    match answer(alloc, words, shelf, out) {
+    let crew = Crew { rt, alloc, post };
+    match answer(&crew, words, shelf, out) {
         Ok(()) => Status(0),
         Err(refusal) => {
             let status = refusal.status();

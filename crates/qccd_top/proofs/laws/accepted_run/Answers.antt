@@ -13,7 +13,7 @@ pub returns : goal.returns
 unfolding ◌>>=◌
 returns c = λ words held machine circuit text workers mode m d reading given there few reads fits short.
     let p : ProgramData = chosen d m mode in
-    let valid = valid_in (Some held) machine m (request-limits words (AskedRun machine circuit workers mode) reading) given in
+    let valid = valid_in (Some held) machine m (request-limits words (AskedRun machine circuit workers mode) reading).0 given in
     inl (
       report_text p,
       (

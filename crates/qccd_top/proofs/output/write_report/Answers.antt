@@ -1,7 +1,7 @@
 use Rattle.std.proofs.Common.{rules}
 use Rattle.tracer.specs.Report.{report_text}
 use Rattle.qccd_top.proofs.Finishing.{same_name, writes_all}
-use Rattle.qccd_top.proofs.output.send_report.Goals as goal
+use Rattle.qccd_top.proofs.output.write_report.Goals as goal
 
 pub returns : goal.returns
 returns g c =
