@@ -1,0 +1,11 @@
+pub mod EachFrom
+pub mod Unfolds
+pub mod Stepping
+pub mod ArgTexts
+pub mod Wires
+pub mod Fitting
+pub mod Telling
+pub mod Opening
+pub mod NameLemmas
+pub mod Measuring
+pub mod Keeping

@@ -1,0 +1,10 @@
+pub mod Gates
+pub mod Items
+pub mod Angles
+pub mod Meaning
+pub mod Measures
+pub mod Rule
+pub mod Steps
+pub mod Outcome
+pub mod Frames
+pub mod Kept

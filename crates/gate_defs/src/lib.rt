@@ -1,0 +1,18 @@
+//! Definitions of gates: what may be defined, what an application of a definition is, and the items that it
+//! expands to.
+#![tactic(auto)]
+
+mod angles;
+mod defs;
+mod expanding;
+mod faults;
+mod items;
+mod kinds;
+mod lists;
+mod measures;
+mod numbers;
+
+pub use defs::Defs;
+pub use faults::ExpandFault;
+pub use kinds::{Arg, BodyStep, Callee, Def, Piece};
+pub use lists::{ItemList, PieceList, PieceLists, StepList, WireList};
