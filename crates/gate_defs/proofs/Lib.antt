@@ -9,3 +9,4 @@ pub mod Opening
 pub mod NameLemmas
 pub mod Measuring
 pub mod Keeping
+pub mod Counting

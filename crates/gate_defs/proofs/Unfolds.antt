@@ -48,7 +48,7 @@ steps_front ms n front p q args qubits (s ∷ steps) few all =
     ap₂ (λ (here more : List Application). a ∷ (here ++ more)) (inside_front ms n front s.callee _ _ a.args a.qubits few all.0.called)
     (steps_front ms n front p q args qubits steps few all.1)
 
-all_steps : (front : List Def) (d : Def) (body : Option (List BodyStep)) → IsBody front d body → AllByRecursion (IsStep front d.params d.qubits) (steps_in body)
+pub all_steps : (front : List Def) (d : Def) (body : Option (List BodyStep)) → IsBody front d body → AllByRecursion (IsStep front d.params d.qubits) (steps_in body)
 all_steps front d None is = tt
 all_steps front d (Some steps) is = is
 

@@ -8,3 +8,4 @@ pub mod Steps
 pub mod Outcome
 pub mod Frames
 pub mod Kept
+pub mod Example

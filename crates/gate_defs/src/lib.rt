@@ -8,9 +8,11 @@ mod expanding;
 mod faults;
 mod items;
 mod kinds;
+pub mod laws;
 mod lists;
 mod measures;
 mod numbers;
+pub mod worked;
 
 pub use defs::Defs;
 pub use faults::ExpandFault;
