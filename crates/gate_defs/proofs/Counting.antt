@@ -1,5 +1,5 @@
 -- An application is as many items as are counted for it.
-use Rattle.std.proofs.Common.{◌≡◌, ℕ, zero, suc, ◌+◌, ◌<◌, ◌≤◌, true, List, [], ◌∷◌, ◌++◌, length, map, take, get_or, refl, sym, ap, ap₂, subst, ◌∙◌, arith, length-append, Option, None, Some, is_some}
+use Rattle.std.proofs.Common.{◌≡◌, ℕ, zero, suc, ◌+◌, ◌<◌, ◌≤◌, true, List, [], ◌∷◌, ◌++◌, length, take, get_or, refl, sym, ap, ap₂, ◌∙◌, arith, length-append, Option, None, Some, is_some}
 use Rattle.std.specs.List.{AllByRecursion}
 use Rattle.std.proofs.lemmas.Bool.{false≢true}
 use Rattle.std.proofs.lemmas.Grind.{flat_map-append}
@@ -17,7 +17,7 @@ use Rattle.gate_defs.specs.declared.kinds.Def.{Def}
 use Rattle.gate_defs.specs.Items.{ccx_items, cswap_items, on_three}
 use Rattle.gate_defs.specs.Meaning.{Application, applications, applied, applied_all, def_at, expansion, items_of, meanings, own_items, own_of, steps_at, steps_in, unnamed, with_inside}
 use Rattle.gate_defs.specs.Measures.{count, count_over, counts, size_all, size_of}
-use Rattle.gate_defs.specs.Rule.{AreDefs, IsBody, IsCalled, IsStep}
+use Rattle.gate_defs.specs.Rule.{AreDefs, IsCalled, IsStep}
 use Rattle.gate_defs.proofs.EachFrom.{turn}
 use Rattle.gate_defs.proofs.Unfolds.{all_steps, rule_at, unfolded}
 
@@ -61,8 +61,8 @@ steps_counted defs cond n front p q args qubits (s ∷ steps) counted below few 
     let rest = applied_all ms args qubits steps in
     let split : items_of defs cond (here ++ rest) ≡ items_of defs cond here ++ items_of defs cond rest = flat_map-append (own_items defs cond) here rest in
     let one : length (items_of defs cond here) ≡ size_of (counts defs) s.callee =
-      callee_counted defs cond n front s.callee (length s.angles) (length s.wires) (applied args qubits s).args (applied args qubits s).qubits counted below few
-      all.0.called (length-map s.wires (λ w. get_or qubits w (qubit 0))) in
+    callee_counted defs cond n front s.callee (length s.angles) (length s.wires) (applied args qubits s).args (applied args qubits s).qubits counted below few
+    all.0.called (length-map s.wires (λ w. get_or qubits w (qubit 0))) in
     ap length split
     ∙ length-append (items_of defs cond here) (items_of defs cond rest)
     ∙ ap₂ (λ (x y : ℕ). x + y) one (steps_counted defs cond n front p q args qubits steps counted below few all.1)
@@ -107,8 +107,8 @@ def_counted {defs = defs} are cond (suc n) = λ id below there args qubits. at_i
         let small : length front ≤ id = omega (arith, length-take-le id defs (omega (arith, there))) in
         let rule = all_steps front d d.body (rule_at are id there).body in
         let steps : length (items_of defs cond (applied_all (meanings defs) args qubits (steps_at defs id))) ≡ size_all (take id (counts defs)) (steps_at defs id) =
-          steps_counted defs cond n front d.params d.qubits args qubits (steps_at defs id) counted (omega (arith, small, below)) (omega (arith, small, there)) rule
-          ∙ sym (sizes_front (counts defs) id front d.params d.qubits (steps_at defs id) small rule) in
+        steps_counted defs cond n front d.params d.qubits args qubits (steps_at defs id) counted (omega (arith, small, below)) (omega (arith, small, there)) rule
+        ∙ sym (sizes_front (counts defs) id front d.params d.qubits (steps_at defs id) small rule) in
         body_counted defs cond d d.body (app (Defined id) args qubits) (applications defs id args qubits) (take id (counts defs)) (unfolded are id args qubits there) steps
         ∙ sym (turn count_over defs id 0 unnamed there)
 

@@ -1,9 +1,9 @@
 -- The items of an application keep the item rule.
-use Rattle.std.proofs.Common.{◌≡◌, ◌≢◌, ℕ, ◌<◌, ◌≤◌, ◌==◌, Bool, true, false, not, ◌&&◌, ◌||◌, List, [], ◌∷◌, ◌++◌, map, length, get_or, All, Option, None, Some, codes, refl, sym, ap, subst, ◌∙◌, arith}
+use Rattle.std.proofs.Common.{◌≡◌, ◌≢◌, ℕ, ◌<◌, ◌≤◌, ◌==◌, Bool, true, false, not, ◌&&◌, ◌||◌, List, [], ◌∷◌, ◌++◌, length, get_or, All, Option, None, Some, codes, refl, sym, ap, subst, ◌∙◌, arith}
 use Rattle.std.specs.Prelude.{IsTrue, nat_le, if◌then◌else◌}
-use Rattle.std.specs.List.{AllByRecursion, list_all, list_any}
+use Rattle.std.specs.List.{AllByRecursion, list_all}
 use Rattle.std.specs.Str.{bytes_eq}
-use Rattle.std.proofs.lemmas.Bool.{and_from, and_parts, eqb-true, eq-eqb, false_from_ne_true, false≢true, leb-true, not-true, not_from_true, or_cases, or_parts}
+use Rattle.std.proofs.lemmas.Bool.{and_parts, eqb-true, eq-eqb, false_from_ne_true, false≢true, leb-true, not-true, not_from_true, or_parts}
 use Rattle.std.proofs.lemmas.Slice.Eq.{bytes_eq-Decides}
 use Rattle.std.proofs.lemmas.List.Elements.{All-from_recursion}
 use Rattle.std.proofs.lemmas.List.{length-map}
@@ -11,14 +11,13 @@ use Rattle.std.proofs.lemmas.List.Folds.{list_all-map}
 use Rattle.qccd_base.specs.Names.{qubit}
 use Rattle.qccd_base.specs.declared.names.Qubit.{Qubit}
 use Rattle.qccd_circuit.specs.declared.kinds.Cond.{Cond}
-use Rattle.qccd_circuit.specs.declared.kinds.ItemKind.TheVariants.{Gate1, Gate2}
-use Rattle.qccd_circuit.specs.Item.{AreAngles, Fits, FitsKind, IsCond, IsGateName, IsName, are_distinct, has_qubit, is_angle, is_word}
+use Rattle.qccd_circuit.specs.Item.{AreAngles, Fits, IsCond, IsGateName, IsName, are_distinct, is_angle, is_word}
 use Rattle.gate_defs.specs.declared.kinds.Arg.{Arg}
 use Rattle.gate_defs.specs.declared.kinds.Def.{Def}
 use Rattle.gate_defs.specs.Gates.{Shape, always, first_table, plain_shape, second_table, shape_in}
-use Rattle.gate_defs.specs.Items.{barrier_on, ccx_items, cswap_items, cx, gate_item, gate_on, kind_on, on_three, one}
+use Rattle.gate_defs.specs.Items.{barrier_on, ccx_items, cswap_items, cx, gate_on, on_three, one}
 use Rattle.gate_defs.specs.Meaning.{def_at, texts}
-use Rattle.gate_defs.specs.Rule.{AreArgs, AreDefs, HasShape, IsBody, IsCalled, MayApply}
+use Rattle.gate_defs.specs.Rule.{AreArgs, AreDefs, HasShape, IsBody, MayApply}
 use Rattle.gate_defs.proofs.Unfolds.{rule_at}
 
 -- ---- names
@@ -172,8 +171,9 @@ three_from a b c distinct =
 swapped : (a b : Qubit) → (b.0 == a.0) ≡ false → (a.0 == b.0) ≡ false
 swapped a b apart = false_from_ne_true (a.0 == b.0) (λ is. false≢true (sym apart ∙ eq-eqb b.0 a.0 (sym (eqb-true a.0 b.0 is))))
 
-ccx_all : (a b c : Qubit) (cond : Option Cond) → AreThree a b c → IsCond cond → AllByRecursion Fits (ccx_items a b c cond)
-ccx_all a b c cond three is_cond =
+pub ccx_all : (a b c : Qubit) (cond : Option Cond) → IsTrue (are_distinct (a ∷ b ∷ c ∷ [])) → IsCond cond → AllByRecursion Fits (ccx_items a b c cond)
+ccx_all a b c cond distinct is_cond =
+    let three = three_from a b c distinct in
     let b_c = cx_fits b c cond three.cb is_cond in
     let a_c = cx_fits a c cond three.ca is_cond in
     let a_b = cx_fits a b cond three.ba is_cond in
@@ -185,6 +185,10 @@ ccx_all a b c cond three is_cond =
     let t_c = one_fits (codes "t") c cond refl is_cond in
     (h_c, (b_c, (tdg_c, (a_c, (t_c, (b_c, (tdg_c, (a_c, (t_b, (t_c, (h_c, (a_b, (t_a, (tdg_b, (a_b, tt)))))))))))))))
 
+-- what cswap has around these
+pub cx_all : (a b c : Qubit) (cond : Option Cond) → IsTrue (are_distinct (a ∷ b ∷ c ∷ [])) → IsCond cond → Fits (cx c b cond)
+cx_all a b c cond distinct is_cond = cx_fits c b cond (swapped b c (three_from a b c distinct).cb) is_cond
+
 -- the first three of a list
 abbrev pub nth : List Qubit → ℕ → Qubit
 nth qs n = get_or qs n (qubit 0)
@@ -193,7 +197,7 @@ pub ccx_fit : (qs : List Qubit) (cond : Option Cond) → length qs ≡ 3 → IsT
 ccx_fit [] cond three distinct is_cond = absurd (omega (arith, three))
 ccx_fit (a ∷ []) cond three distinct is_cond = absurd (omega (arith, three))
 ccx_fit (a ∷ b ∷ []) cond three distinct is_cond = absurd (omega (arith, three))
-ccx_fit (a ∷ b ∷ c ∷ []) cond three distinct is_cond = All-from_recursion Fits (ccx_items a b c cond) (ccx_all a b c cond (three_from a b c distinct) is_cond)
+ccx_fit (a ∷ b ∷ c ∷ []) cond three distinct is_cond = All-from_recursion Fits (ccx_items a b c cond) (ccx_all a b c cond distinct is_cond)
 ccx_fit (a ∷ b ∷ c ∷ d ∷ qs) cond three distinct is_cond = absurd (omega (arith, three))
 
 pub around_fits : (qs : List Qubit) (cond : Option Cond) → length qs ≡ 3 → IsTrue (are_distinct qs) → IsCond cond → All Fits (cx (nth qs 2) (nth qs 1) cond ∷ [])
@@ -201,7 +205,7 @@ around_fits [] cond three distinct is_cond = absurd (omega (arith, three))
 around_fits (a ∷ []) cond three distinct is_cond = absurd (omega (arith, three))
 around_fits (a ∷ b ∷ []) cond three distinct is_cond = absurd (omega (arith, three))
 around_fits (a ∷ b ∷ c ∷ []) cond three distinct is_cond =
-    All-from_recursion Fits (cx c b cond ∷ []) (cx_fits c b cond (swapped b c (three_from a b c distinct).cb) is_cond, tt)
+    All-from_recursion Fits (cx c b cond ∷ []) (cx_all a b c cond distinct is_cond, tt)
 around_fits (a ∷ b ∷ c ∷ d ∷ qs) cond three distinct is_cond = absurd (omega (arith, three))
 
 pub ccx_is : (qs : List Qubit) (cond : Option Cond) → length qs ≡ 3 → on_three ccx_items qs cond ≡ ccx_items (nth qs 0) (nth qs 1) (nth qs 2) cond

@@ -10,3 +10,5 @@ pub mod NameLemmas
 pub mod Measuring
 pub mod Keeping
 pub mod Counting
+pub mod Inheriting
+pub mod Good

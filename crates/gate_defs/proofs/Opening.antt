@@ -1,5 +1,5 @@
 -- What an application leaves to do.
-use Rattle.std.proofs.Common.{◌≡◌, ℕ, ◌≤◌, ◌+◌, List, [], ◌∷◌, ◌++◌, ◌<◌, length, sym, ap, ap₂, subst, ◌∙◌, arith, length-append, Option, None, Some, All}
+use Rattle.std.proofs.Common.{◌≡◌, ℕ, List, [], ◌∷◌, ◌++◌, ◌<◌, length, sym, ap, ap₂, subst, ◌∙◌, arith, length-append, None, Some, All}
 use Rattle.std.specs.Prelude.{IsTrue}
 use Rattle.std.specs.List.{AllByRecursion}
 use Rattle.std.proofs.lemmas.List.Elements.{All-cons, All-nil}
@@ -46,6 +46,9 @@ opens_steps {defs = defs} are c f fs called opens are_args distinct all =
     }
 
 -- ---- at the start
+
+pub first_is : (fs new : List Frame) (f : Frame) → new ≡ fs ++ f ∷ [] → fs ≡ [] → new ≡ f ∷ []
+first_is fs new f new_is is = new_is ∙ ap (λ (l : List Frame). l ++ f ∷ []) is
 
 pub first_left :
     {defs : List Def} → AreDefs defs → (id : ℕ) (args : List Arg) (qubits : List Qubit) (fs : List Frame) (f : Frame) → id < length defs → fs ≡ f ∷ []

@@ -1,5 +1,5 @@
 -- One turn: what is left to do before it and behind it.
-use Rattle.std.proofs.Common.{◌≡◌, ℕ, suc, ◌+◌, ◌-◌, drop, take, ◌<◌, ◌≤◌, Bool, true, false, ◌||◌, List, [], ◌∷◌, ◌++◌, length, get_or, map, refl, sym, ◌∙◌, ap, ap₂, subst, arith, length-append, append_assoc, append-nil, Option, All}
+use Rattle.std.proofs.Common.{◌≡◌, ℕ, suc, ◌-◌, drop, take, ◌≤◌, Bool, false, ◌||◌, List, [], ◌∷◌, ◌++◌, length, get_or, map, sym, ◌∙◌, ap, ap₂, subst, arith, length-append, append_assoc, append-nil, Option, All}
 use Rattle.std.specs.List.{AllByRecursion, list_any}
 use Rattle.std.specs.Prelude.{IsTrue}
 use Rattle.std.proofs.lemmas.List.{length-drop, take_all}

@@ -66,7 +66,7 @@ unfolded {defs = defs} are id args qubits below =
 
 -- ---- and the rule of its steps holds over all definitions
 
-called_more : (defs : List Def) (n : ℕ) (c : Callee) (a q : ℕ) → n ≤ length defs → IsCalled (take n defs) c a q → IsCalled defs c a q
+pub called_more : (defs : List Def) (n : ℕ) (c : Callee) (a q : ℕ) → n ≤ length defs → IsCalled (take n defs) c a q → IsCalled defs c a q
 called_more defs n (Plain name) a q few is = is
 called_more defs n Ccx a q few is = is
 called_more defs n Cswap a q few is = is

@@ -83,3 +83,7 @@ sum = arg (codes "pi+1") false
 -- that two bits from the first have the value 2
 abbrev pub two_bits : Option Cond
 two_bits = Some (record { first = bit 0; count = 2; value = 2 })
+
+-- gate f(t) a { o(-t) a; }, where o is number 0
+abbrev pub minus_inside : Def
+minus_inside = gate_of (codes "f") 1 1 (step (Defined 0) ((token (codes "-") ∷ Param 0 ∷ []) ∷ []) (0 ∷ []) ∷ [])

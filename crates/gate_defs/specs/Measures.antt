@@ -1,5 +1,5 @@
 -- How deep a definition is, what it weighs, and how many items it is.
-use Rattle.std.specs.Prelude.{ℕ, ◌+◌, List, [], ◌∷◌, map, get_or, Option, None, Some}
+use Rattle.std.specs.Prelude.{ℕ, ◌+◌, List, [], map, get_or, None, Some}
 use Rattle.std.specs.List.{sum_by}
 use Rattle.qccd_base.specs.Greatest.{greatest}
 use Rattle.gate_defs.specs.declared.kinds.Callee.{Callee}

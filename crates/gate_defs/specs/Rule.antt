@@ -1,5 +1,5 @@
 -- What may be defined, where these definitions are there, and what a definition may be applied to.
-use Rattle.std.specs.Prelude.{◌≡◌, ℕ, zero, suc, ◌<◌, ◌≤◌, ◌==◌, Bool, true, false, not, ◌&&◌, List, [], ◌∷◌, ◌++◌, length, All, Option, None, Some, is_some, IsTrue}
+use Rattle.std.specs.Prelude.{◌≡◌, ℕ, suc, ◌<◌, ◌≤◌, ◌==◌, Bool, true, false, not, ◌&&◌, List, [], ◌∷◌, ◌++◌, length, All, Option, None, Some, is_some, IsTrue}
 use Rattle.std.specs.List.{list_any, list_all, AllByRecursion}
 use Rattle.std.specs.Str.{bytes_eq}
 use Rattle.qccd_base.specs.declared.names.Qubit.{Qubit}
@@ -13,7 +13,7 @@ use Rattle.gate_defs.specs.declared.kinds.Callee.TheVariants.{Plain, Ccx, Cswap,
 use Rattle.gate_defs.specs.declared.kinds.BodyStep.{BodyStep}
 use Rattle.gate_defs.specs.declared.kinds.Def.{Def}
 use Rattle.gate_defs.specs.Gates.{Shape, plain_shape}
-use Rattle.gate_defs.specs.Meaning.{def_at}
+use Rattle.gate_defs.specs.Meaning.{Application, def_at}
 use Rattle.gate_defs.specs.Measures.{depth_over, depths, weight_over, weights}
 
 -- ---- names
@@ -106,3 +106,10 @@ pub record CanApply (defs : List Def) (id : ℕ) (args : List Arg) (qubits : Lis
   pub qubits_fit : length qubits ≡ (def_at defs id).qubits
   pub are_args : AreArgs args
   pub distinct : IsTrue (item.are_distinct qubits)
+
+-- the application can be made, on some of the first n qubits
+pub record IsApplied (defs : List Def) (n : ℕ) (a : Application) : Type 0 where
+  pub called : IsCalled defs a.callee (length a.args) (length a.qubits)
+  pub are_args : AreArgs a.args
+  pub distinct : IsTrue (item.are_distinct a.qubits)
+  pub below : All (λ q. q.0 < n) a.qubits

@@ -12,6 +12,8 @@ pub mod laws;
 mod lists;
 mod measures;
 mod numbers;
+#[cfg(test)]
+mod tests;
 pub mod worked;
 
 pub use defs::Defs;

@@ -1,10 +1,8 @@
 -- One long angle settles it.
-use Rattle.std.proofs.Common.{◌≡◌, ℕ, List, [], true, get_or, length, map, ap, sym, ◌∙◌, subst, ◌<◌}
+use Rattle.std.proofs.Common.{◌≡◌, ℕ, true, get_or, map, ap, sym, ◌∙◌, subst, ◌<◌}
 use Rattle.std.specs.List.{list_any}
 use Rattle.std.proofs.lemmas.List.{get_or-map, get_or_default, length-map}
 use Rattle.std.proofs.lemmas.List.Folds.{list_any_at}
-use Rattle.gate_defs.specs.declared.kinds.Arg.{Arg}
-use Rattle.gate_defs.specs.declared.kinds.Piece.{Piece}
 use Rattle.gate_defs.specs.Angles.{angle_under, is_long}
 use Rattle.gate_defs.proofs.Telling.{handed_on}
 use Rattle.gate_defs.proofs.angles.angles_under.Goals as goal

@@ -1,4 +1,4 @@
-use Rattle.std.proofs.Common.{◌≡◌, ℕ, List, ap, arith, length, sym, ◌∙◌, ◌++◌, ◌∷◌, []}
+use Rattle.std.proofs.Common.{ℕ, List, ap, arith, length, ◌∙◌, ◌++◌, ◌∷◌, []}
 use Rattle.gate_defs.specs.declared.kinds.Def.{Def}
 use Rattle.gate_defs.specs.declared.measures.Measures.{Measures}
 use Rattle.gate_defs.specs.Kept.{counts_in, depths_in, number_of, weights_in, with_number}

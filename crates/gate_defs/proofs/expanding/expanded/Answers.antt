@@ -1,10 +1,9 @@
-use Rattle.std.proofs.Common.{◌≡◌, List, [], ◌∷◌, ◌++◌, All, ap, ap₂, subst, sym, ◌∙◌}
+use Rattle.std.proofs.Common.{◌≡◌, List, ◌++◌, All, ap, ap₂, subst, sym}
 use Rattle.std.proofs.lemmas.List.Elements.{All-take}
 use Rattle.qccd_circuit.specs.Item.{ItemData}
-use Rattle.gate_defs.specs.declared.expanding.Frame.{Frame}
 use Rattle.gate_defs.specs.Frames.{IsOpen, left}
 use Rattle.gate_defs.specs.Meaning.{Application, any_long, applications, items_of}
-use Rattle.gate_defs.proofs.Opening.{first_left, first_open}
+use Rattle.gate_defs.proofs.Opening.{first_is, first_left, first_open}
 use Rattle.gate_defs.proofs.expanding.expanded.Goals as goal
 
 pub loop-frame-init : goal.loop-frame-init
@@ -14,8 +13,7 @@ loop-frame-init c =
     let qubits = c.args.qubits.now in
     let f = c.in_ok-first_frame.field-0 in
     let first = c.in_ok-first_frame.ensures in
-    let is : c.push.new.self.items ≡ f ∷ [] =
-    c.in_ok-push.ensures.items ∙ ap (λ (fs : List Frame). fs ++ f ∷ []) c.new-frames.ensures.items in
+    let is = first_is c.new-frames.result.items c.push.new.self.items f c.in_ok-push.ensures.items c.new-frames.ensures.items in
     let all : left defs c.push.new.self.items ≡ applications defs c.args.id args qubits =
     first_left c.requires.are_defs c.args.id args qubits c.push.new.self.items f c.requires.can_apply.there is first.steps first.args first.qubits in
     record {

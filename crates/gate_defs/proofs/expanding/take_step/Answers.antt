@@ -1,16 +1,16 @@
 -- A step is taken, or a definition without further steps is closed.
-use Rattle.std.proofs.Common.{◌≡◌, ℕ, ◌<◌, List, [], ◌∷◌, ◌++◌, length, false, ap, ap₂, arith, drop, get_or, map, refl, subst, sym, ◌∙◌}
+use Rattle.std.proofs.Common.{◌≡◌, ℕ, ◌<◌, List, [], ◌∷◌, ◌++◌, length, ap, ap₂, arith, drop, get_or, map, refl, subst, sym, ◌∙◌}
 use Rattle.std.specs.List.{list_any}
 use Rattle.std.specs.Prelude.{IsTrue}
 use Rattle.qccd_base.specs.Names.{qubit}
 use Rattle.qccd_base.specs.declared.names.Qubit.{Qubit}
-use Rattle.qccd_circuit.specs.Item.{ItemData, are_distinct}
+use Rattle.qccd_circuit.specs.Item.{are_distinct}
 use Rattle.gate_defs.specs.declared.kinds.Arg.{Arg}
 use Rattle.gate_defs.specs.declared.kinds.BodyStep.{BodyStep}
 use Rattle.gate_defs.specs.declared.kinds.Piece.{Piece}
 use Rattle.gate_defs.specs.Angles.{angle_under, is_long}
 use Rattle.gate_defs.specs.Frames.{Opens}
-use Rattle.gate_defs.specs.Meaning.{Application, applied, own_items}
+use Rattle.gate_defs.specs.Meaning.{Application, own_items}
 use Rattle.gate_defs.specs.Outcome.{Tells}
 use Rattle.gate_defs.specs.Rule.{AreArgs, IsStep}
 use Rattle.gate_defs.proofs.ArgTexts.{angles_are}

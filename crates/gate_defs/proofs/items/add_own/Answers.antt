@@ -1,4 +1,4 @@
-use Rattle.std.proofs.Common.{◌≡◌, ℕ, List, None, sym, ap, ◌∙◌, subst, length}
+use Rattle.std.proofs.Common.{◌≡◌, ℕ, List, sym, ap, ◌∙◌, subst, length}
 use Rattle.std.proofs.lemmas.List.{get_or_default}
 use Rattle.qccd_circuit.specs.Item.{Fits}
 use Rattle.gate_defs.specs.declared.kinds.Callee.{Callee}

@@ -1,4 +1,4 @@
-use Rattle.std.proofs.Common.{◌≡◌, ℕ, ◌+◌, ap, ap₂, get_or, max, sym, ◌∙◌}
+use Rattle.std.proofs.Common.{ℕ, ◌+◌, ap, ap₂, max, sym, ◌∙◌}
 use Rattle.std.proofs.lemmas.List.Sums.{sum_by_more}
 use Rattle.gate_defs.specs.declared.kinds.BodyStep.{BodyStep}
 use Rattle.gate_defs.specs.Kept.{counts_in, depths_in, weights_in}

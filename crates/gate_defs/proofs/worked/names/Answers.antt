@@ -4,7 +4,7 @@ use Rattle.std.proofs.lemmas.List.Elements.{All-from_recursion}
 use Rattle.gate_defs.specs.declared.kinds.Piece.{Piece}
 use Rattle.gate_defs.specs.declared.kinds.Piece.TheVariants.{Param}
 use Rattle.gate_defs.specs.Example.{g, token, twice}
-use Rattle.gate_defs.specs.Rule.{AreDefs, none, next, IsAngle, IsNext, IsPiece}
+use Rattle.gate_defs.specs.Rule.{none, next, IsAngle, IsNext, IsPiece}
 use Rattle.gate_defs.proofs.worked.names.Goals as goal
 
 half : IsAngle 1 (Param 0 ∷ token (codes "/") ∷ token (codes "2") ∷ [])
@@ -39,8 +39,10 @@ first =
       qubits = omega arith;
       body = (
         record { called = (refl, refl); angles = one _ half; distinct = refl; wires = wire 0 (omega arith) },
-        (record { called = (refl, refl); angles = none_of; distinct = refl; wires = wires 0 1 (omega arith) (omega arith) },
-        (record { called = (refl, refl); angles = one _ minus; distinct = refl; wires = wire 1 (omega arith) }, tt)),
+        (
+          record { called = (refl, refl); angles = none_of; distinct = refl; wires = wires 0 1 (omega arith) (omega arith) },
+          (record { called = (refl, refl); angles = one _ minus; distinct = refl; wires = wire 1 (omega arith) }, tt),
+        ),
       );
       deep = omega arith;
       heavy = omega arith;

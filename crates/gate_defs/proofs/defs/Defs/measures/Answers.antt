@@ -1,4 +1,4 @@
-use Rattle.std.proofs.Common.{◌≡◌, List, ap, arith, length, subst}
+use Rattle.std.proofs.Common.{List, ap, arith, length, subst}
 use Rattle.gate_defs.specs.declared.kinds.Def.{Def}
 use Rattle.gate_defs.specs.Kept.{AreMeasuresOf}
 use Rattle.gate_defs.proofs.Keeping.{measured_at}
