@@ -1,15 +1,17 @@
 -- Each number that an operation of a run names is within the limit of its word.
-use Rattle.std.proofs.Common.{◌≡◌, ℕ, ◌+◌, ◌<◌, ◌≤◌, Bool, true, false, ◌&&◌, ◌||◌, ◌==◌, nat_lt, List, [], ◌∷◌, ◌++◌, length, refl, sym, ◌∙◌, ap, subst, arith, Some, None, option_map, if◌then◌else◌}
+use Rattle.std.proofs.Common.{◌≡◌, ℕ, zero, suc, ◌+◌, ◌<◌, ◌≤◌, Bool, true, false, ◌&&◌, ◌||◌, ◌==◌, nat_lt, List, [], ◌∷◌, ◌++◌, length, refl, sym, ◌∙◌, ap, subst, arith, Option, Some, None, option_map, if◌then◌else◌}
 use Rattle.std.specs.Prelude.{find}
 use Rattle.std.specs.List.{list_all, list_any, AllByRecursion}
 use Rattle.std.proofs.lemmas.Bool.{and_parts, ltb-true, eqb-true}
+use Rattle.std.proofs.lemmas.List.Folds.{list_all-append}
 use Rattle.std.proofs.lemmas.List.Sums.{count_by-le-length}
 use Rattle.qccd_base.proofs.FirstFailing.{all_met}
 use Rattle.qccd_base.specs.declared.names.Bit.{Bit}
 use Rattle.qccd_base.specs.declared.names.Ion.{Ion}
 use Rattle.qccd_base.specs.declared.names.Qubit.{Qubit}
 use Rattle.qccd_base.specs.declared.names.TrapId.{TrapId}
-use Rattle.qccd_circuit.specs.Item.{cond_bits}
+use Rattle.qccd_circuit.specs.declared.kinds.Cond.{Cond}
+use Rattle.qccd_circuit.specs.Item.{bits_from, cond_bits}
 use Rattle.qccd_machine.specs.Machine.{MachineData, IsValid}
 use Rattle.op_table.specs.declared.kinds.OpKind.{OpKind}
 use Rattle.op_table.specs.declared.kinds.OpKind.TheVariants.{Split, Move, Enter, Leave, Merge, Rot, GSwap, Item, Fence}
@@ -20,8 +22,8 @@ use Rattle.op_table.specs.Step.{why, effect, needs, has_trap, has_segment, has_j
 use Rattle.op_plan.specs.Plan.{PlanData, Agrees, begun, wired, state_of}
 use Rattle.op_plan.proofs.Agreeing.{effect_agrees}
 use Rattle.op_plan.proofs.Runs.{AreBelow, after_append, state_below, state_bits, state_ions}
-use Rattle.transport_asm.specs.Writable.{KeepsLimits}
-use Rattle.loader.specs.Written.{IsPlain}
+use Rattle.transport_asm.specs.Writable.{KeepsCondLimits, KeepsLimits}
+use Rattle.loader.specs.Written.{IsPlain, TellsValue}
 
 -- ---- places
 
@@ -53,6 +55,20 @@ bits_small n [] more small all = tt
 bits_small n (b ∷ bs) more small all =
     let parts = and_parts (nat_lt b.0 n) (list_all (λ c. nat_lt c.0 n) (bs ++ more)) all in
     (omega (arith, ltb-true b.0 n parts.0, small), bits_small n bs more small parts.1)
+
+-- the bits of a condition stand side by side
+end_below : (n first k : ℕ) → list_all (λ b. nat_lt b.0 n) (bits_from first (suc k)) ≡ true → first + suc k ≤ n
+end_below n first zero all = omega (arith, ltb-true first n (and_parts (nat_lt first n) true all).0)
+end_below n first (suc k) all =
+    omega (arith, end_below n (first + 1) k (and_parts (nat_lt first n) (list_all (λ b. nat_lt b.0 n) (bits_from (first + 1) (suc k))) all).1)
+
+cond_small : (n : ℕ) (bs : List Bit) (c : Option Cond) → n ≤ 256 → list_all (λ b. nat_lt b.0 n) (bs ++ cond_bits c) ≡ true → TellsValue c → KeepsCondLimits c
+cond_small n bs None small all tells = tt
+cond_small n bs (Some c) small all tells = (by_count c.first.0 c.count (and_parts _ _ (sym (list_all-append (λ b. nat_lt b.0 n) bs (bits_from c.first.0 c.count)) ∙ all)).1, tells)
+  where
+    by_count : (first k : ℕ) → list_all (λ b. nat_lt b.0 n) (bits_from first k) ≡ true → k ≤ 65535
+    by_count first zero read = omega arith
+    by_count first (suc k) read = omega (arith, end_below n first k read, small)
 
 -- ---- qubits
 
@@ -142,6 +158,7 @@ op_limits m s (Item number t item at) valid small kept plain legal =
       carried_small 256 s t.0 at item.qubits (omega arith) small.below met.1.1.0,
       bits_small s.bits item.bits (cond_bits item.cond) small.bits there.1,
       positions_small (ions_in s t.0) at (few_in s t.0 small.ions) met.1.0,
+      cond_small s.bits item.bits item.cond small.bits there.1 plain.1,
     )
 op_limits m s (Fence number item traps) valid small kept plain legal =
     let met = all_met (needs m s (Fence number item traps)) legal in

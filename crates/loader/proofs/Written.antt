@@ -6,7 +6,10 @@ use Rattle.std.proofs.lemmas.List.Elements.{recursion_from_All, All-from_get_or}
 use Rattle.std.proofs.lemmas.Option.{none-some, same_Some}
 use Rattle.qccd_base.specs.declared.names.Ion.{Ion}
 use Rattle.qccd_circuit.specs.Circuit.{CircuitData, IsCircuit}
-use Rattle.qccd_circuit.specs.Item.{ItemData}
+use Rattle.qccd_circuit.specs.declared.kinds.Cond.{Cond}
+use Rattle.qccd_circuit.specs.declared.kinds.ItemKind.{ItemKind}
+use Rattle.qccd_circuit.specs.declared.kinds.ItemKind.TheVariants.{Barrier}
+use Rattle.qccd_circuit.specs.Item.{ItemData, FitsKind}
 use Rattle.qccd_machine.specs.Machine.{MachineData, IsValid}
 use Rattle.op_table.specs.declared.kinds.OpKind.{OpKind}
 use Rattle.op_table.specs.declared.kinds.OpKind.TheVariants.{Split, Move, Enter, Leave, Merge, Rot, GSwap, Item, Fence}
@@ -20,12 +23,12 @@ use Rattle.qccd_program.specs.Program.{ProgramData}
 use Rattle.transport_asm.specs.ProgramText.{program_text, spelled}
 use Rattle.op_text.specs.Slots.{greatest}
 use Rattle.transport_asm.specs.Texts.{RawData}
-use Rattle.transport_asm.specs.Writable.{KeepsLimits, IsWritable, IsWritableChain, IsWritableRaw}
+use Rattle.transport_asm.specs.Writable.{KeepsCondLimits, KeepsLimits, IsWritable, IsWritableChain, IsWritableRaw}
 use Rattle.transport_asm.proofs.Answered.{one_raw}
 use Rattle.transport_asm.proofs.Rule.{raw_fitting, raw_writable}
 use Rattle.transport_asm.proofs.TextLaws.{text_again, text_takes}
 use Rattle.loader.specs.Refusal.{on_machine, load_refusal}
-use Rattle.loader.specs.Written.{IsLoadedAs, IsPlain}
+use Rattle.loader.specs.Written.{IsLoadedAs, IsPlain, TellsValue}
 use Rattle.loader.proofs.LegalLoads.{start_is, legal_if_none, none_if_legal, none_parts}
 use Rattle.loader.proofs.Limits.{run_limits}
 
@@ -51,15 +54,15 @@ chains_writable m qubits chains valid few start = recursion_from_All IsWritableC
 
 -- ---- operations
 
-unconditional : (o : Option (ℕ × ItemData)) → IfSome o (λ e. (e.0 ≤ greatest) × (e.1.cond ≡ None)) → IfSome o (λ e. e.1.cond ≡ None)
-unconditional None plain = tt
-unconditional (Some e) plain = plain.1
+tells_value : (c : Option Cond) → KeepsCondLimits c → TellsValue c
+tells_value None limits = tt
+tells_value (Some c) limits = limits.1
 
-all_writable : (ops : List OpKind) → AllByRecursion IsOp ops → AllByRecursion KeepsItemRule ops → AllByRecursion IsPlain ops → AllByRecursion KeepsLimits ops → AllByRecursion IsWritable ops
-all_writable [] kept fit plain limits = tt
-all_writable (op ∷ ops) kept fit plain limits = (
-  record { is_op = kept.0; fits = fit.0; unconditional = unconditional (item_in op) plain.0; limits = limits.0 },
-  all_writable ops kept.1 fit.1 plain.1 limits.1,
+all_writable : (ops : List OpKind) → AllByRecursion IsOp ops → AllByRecursion KeepsItemRule ops → AllByRecursion KeepsLimits ops → AllByRecursion IsWritable ops
+all_writable [] kept fit limits = tt
+all_writable (op ∷ ops) kept fit limits = (
+  record { is_op = kept.0; fits = fit.0; limits = limits.0 },
+  all_writable ops kept.1 fit.1 limits.1,
 )
 
 plain_op : (op : OpKind) → IsWritable op → IsPlain op
@@ -70,8 +73,12 @@ plain_op (Leave j g) w = tt
 plain_op (Merge g t e) w = tt
 plain_op (Rot t p) w = tt
 plain_op (GSwap t low high) w = tt
-plain_op (Item number t item at) w = (w.limits.0, w.unconditional)
-plain_op (Fence number item traps) w = (w.limits.0, w.unconditional)
+plain_op (Item number t item at) w = (w.limits.0, tells_value item.cond w.limits.5)
+plain_op (Fence number item traps) w = (w.limits.0, barrier_tells item.kind item w.is_op.0 w.fits.kind)
+  where
+    -- a barrier has no condition
+    barrier_tells : (kind : ItemKind) (d : ItemData) → kind ≡ Barrier → FitsKind kind d → TellsValue d.cond
+    barrier_tells kind d is fits = subst TellsValue (sym (subst (λ (k : ItemKind). FitsKind k d) is fits).4) tt
 
 -- what each operation of the list keeps to
 all_ops : (P : OpKind → Type 0) → ((op : OpKind) → IsWritable op → P op) → (ops : List OpKind) → AllByRecursion IsWritable ops → AllByRecursion P ops
@@ -87,7 +94,7 @@ writable p valid legal plain = record {
   traps = omega (arith, legal.start.chains, valid.few_traps);
   chains = chains_writable p.machine p.qubits p.start valid legal.qubits legal.start;
   few_ops = legal.few;
-  ops = all_writable p.ops legal.ops legal.items_fit plain (run_limits p.machine p.qubits p.bits p.start p.ops valid legal.qubits legal.bits legal.run legal.ops plain);
+  ops = all_writable p.ops legal.ops legal.items_fit (run_limits p.machine p.qubits p.bits p.start p.ops valid legal.qubits legal.bits legal.run legal.ops plain);
 }
 
 pub comes_back : (p : ProgramData) → IsValid p.machine → IsLegalProgram p → AllByRecursion IsPlain p.ops → IsLoadedAs p.machine (program_text p) p
@@ -117,7 +124,7 @@ one_program m text p q first second = first.program ∙ ap (on_machine m) (one_r
 
 -- ---- circuits
 
-plain_item : (items : List ItemData) (number : ℕ) (item : ItemData) → length items ≤ 65536 → AllByRecursion (λ d. d.cond ≡ None) items → slice_get items number ≡ Some item → (number ≤ greatest) × (item.cond ≡ None)
+plain_item : (items : List ItemData) (number : ℕ) (item : ItemData) → length items ≤ 65536 → AllByRecursion (λ d. TellsValue d.cond) items → slice_get items number ≡ Some item → (number ≤ greatest) × TellsValue item.cond
 plain_item items number item few plain is = (omega (arith, below items number is, few), found items number plain is)
   where
     below : (items : List ItemData) (n : ℕ) → slice_get items n ≡ Some item → n < length items
@@ -125,21 +132,21 @@ plain_item items number item few plain is = (omega (arith, below items number is
     below (d ∷ items) zero is = omega arith
     below (d ∷ items) (suc n) is = omega (arith, below items n is)
 
-    found : (items : List ItemData) (n : ℕ) → AllByRecursion (λ d. d.cond ≡ None) items → slice_get items n ≡ Some item → item.cond ≡ None
+    found : (items : List ItemData) (n : ℕ) → AllByRecursion (λ d. TellsValue d.cond) items → slice_get items n ≡ Some item → TellsValue item.cond
     found [] n plain is = absurd (none-some item is)
-    found (d ∷ items) zero plain is = subst (λ (x : ItemData). x.cond ≡ None) (same_Some d item is) plain.0
+    found (d ∷ items) zero plain is = subst (λ (x : ItemData). TellsValue x.cond) (same_Some d item is) plain.0
     found (d ∷ items) (suc n) plain is = found items n plain.1 is
 
-plain_all : (P : ℕ × ItemData → Type 0) → ((e : ℕ × ItemData) → P e → (e.0 ≤ greatest) × (e.1.cond ≡ None)) → (ops : List OpKind) → AllByRecursion P (items_in ops) → AllByRecursion IsPlain ops
+plain_all : (P : ℕ × ItemData → Type 0) → ((e : ℕ × ItemData) → P e → (e.0 ≤ greatest) × TellsValue e.1.cond) → (ops : List OpKind) → AllByRecursion P (items_in ops) → AllByRecursion IsPlain ops
 plain_all P plain [] all = tt
 plain_all P plain (op ∷ ops) all = by_item (item_in op) (plain_all P plain ops) all
   where
     by_item : (o : Option (ℕ × ItemData)) → (AllByRecursion P (items_in ops) → AllByRecursion IsPlain ops) → AllByRecursion P (cons_option o (items_in ops))
-        → IfSome o (λ e. (e.0 ≤ greatest) × (e.1.cond ≡ None)) × AllByRecursion IsPlain ops
+        → IfSome o (λ e. (e.0 ≤ greatest) × TellsValue e.1.cond) × AllByRecursion IsPlain ops
     by_item None later all = (tt, later all)
     by_item (Some e) later all = (plain e all.0, later all.1)
 
-pub plain_program : (p : ProgramData) (c : CircuitData) (m : MachineData) → IsCircuit c → All (λ d. d.cond ≡ None) c.items → Implements p c m → AllByRecursion IsPlain p.ops
+pub plain_program : (p : ProgramData) (c : CircuitData) (m : MachineData) → IsCircuit c → All (λ d. TellsValue d.cond) c.items → Implements p c m → AllByRecursion IsPlain p.ops
 plain_program p c m circuit plain implements =
-    plain_all (λ e. slice_get c.items e.0 ≡ Some e.1) (λ e is. plain_item c.items e.0 e.1 circuit.few_items (recursion_from_All (λ d. d.cond ≡ None) c.items plain) is) p.ops
+    plain_all (λ e. slice_get c.items e.0 ≡ Some e.1) (λ e is. plain_item c.items e.0 e.1 circuit.few_items (recursion_from_All (λ d. TellsValue d.cond) c.items plain) is) p.ops
     (recursion_from_All (λ e. slice_get c.items e.0 ≡ Some e.1) (items_in p.ops) implements.items)

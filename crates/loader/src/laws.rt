@@ -11,7 +11,7 @@ ghost use Rattle.qccd_program.specs.Program.{ProgramData};
 ghost use Rattle.transport_asm.specs.ProgramText.{program_text};
 ghost use Rattle.transport_asm.specs.Texts.{RawData};
 ghost use Rattle.loader.specs.Refusal.{on_machine, load_refusal};
-ghost use Rattle.loader.specs.Written.{IsLoadedAs, IsPlain};
+ghost use Rattle.loader.specs.Written.{IsLoadedAs, IsPlain, TellsValue};
 
 /// A raw program that keeps the limits is refused or is a legal program of the machine, and not both.
 pub fn loads_what_is_legal()
@@ -20,8 +20,8 @@ pub fn loads_what_is_legal()
 {}
 
 /// On a valid machine a text is loaded as a program exactly where it is the text of that program, the program is
-/// legal, and each of its items has a number within the limit and no condition. So reading and loading what was
-/// written gives the program back.
+/// legal, and each of its items has a number within the limit, and a value of 128 bits in its condition. So reading
+/// and loading what was written gives the program back.
 pub fn loads_what_was_written()
     ensures { (p : ProgramData) (text : List ℕ) → IsValid p.machine
         → IsLoadedAs p.machine text p ↔ ((text ≡ program_text p) × IsLegalProgram p × AllByRecursion IsPlain p.ops) }
@@ -32,7 +32,8 @@ pub fn loads_one_program()
     ensures { (m : MachineData) (text : List ℕ) (p q : ProgramData) → IsLoadedAs m text p → IsLoadedAs m text q → p ≡ q }
 {}
 
-/// A program that implements a circuit without conditions does only items of which a text tells all.
+/// A program that implements a circuit whose conditions have values of 128 bits does only items of which a text
+/// tells all.
 pub fn items_of_circuits()
-    ensures { (p : ProgramData) (c : CircuitData) (m : MachineData) → IsCircuit c → All (λ d. d.cond ≡ None) c.items → Implements p c m → AllByRecursion IsPlain p.ops }
+    ensures { (p : ProgramData) (c : CircuitData) (m : MachineData) → IsCircuit c → All (λ d. TellsValue d.cond) c.items → Implements p c m → AllByRecursion IsPlain p.ops }
 {}

@@ -1,5 +1,5 @@
 -- The text of an operation.
-use Rattle.std.specs.Prelude.{ℕ, Bool, true, false, ◌==◌, List, [], ◌∷◌, ◌++◌, length, flat_map, zip, codes, decimal}
+use Rattle.std.specs.Prelude.{ℕ, Bool, true, false, ◌&&◌, ◌==◌, Option, Some, None, is_none, List, [], ◌∷◌, ◌++◌, length, flat_map, zip, codes, decimal}
 use Rattle.std.specs.List.{join_with_byte}
 use Rattle.qccd_base.specs.declared.names.Qubit.{Qubit}
 use Rattle.qccd_base.specs.declared.names.Bit.{Bit}
@@ -9,6 +9,7 @@ use Rattle.qccd_base.specs.declared.names.JuncId.{JuncId}
 use Rattle.qccd_base.specs.declared.names.End.{End}
 use Rattle.qccd_base.specs.declared.names.End.TheVariants.{Left, Right}
 use Rattle.qccd_circuit.specs.Item.{ItemData}
+use Rattle.qccd_circuit.specs.declared.kinds.Cond.{Cond}
 use Rattle.op_table.specs.declared.kinds.OpKind.{OpKind}
 use Rattle.op_table.specs.declared.kinds.OpKind.TheVariants.{Split, Move, Enter, Leave, Merge, Rot, GSwap, Item, Fence}
 
@@ -44,11 +45,17 @@ angles_text (angle ∷ angles) = codes "(" ++ join_with_byte 44 (angle ∷ angle
 abbrev pub operand_text : Qubit × ℕ → List ℕ
 operand_text operand = qubit_text operand.0 ++ codes "@" ++ decimal operand.1
 
+-- a condition: the first of its bits, how many there are, and their value
+abbrev pub cond_text : Option Cond → List ℕ
+cond_text None = []
+cond_text (Some c) = codes " if" ++ next_word (bit_text c.first) ++ next_word (decimal c.count) ++ next_word (decimal c.value)
+
 abbrev pub item_text : ℕ → TrapId → ItemData → List ℕ → List ℕ
 item_text number t item at =
     codes "item " ++ decimal number ++ next_word (item.name ++ angles_text item.angles) ++ next_word (trap_text t)
     ++ flat_map (λ operand. next_word (operand_text operand)) (zip item.qubits at)
     ++ flat_map (λ b. next_word (bit_text b)) item.bits
+    ++ cond_text item.cond
 
 abbrev pub op_text : OpKind → List ℕ
 op_text (Split t e g) = codes "split " ++ trap_text t ++ next_word (end_text e) ++ next_word (segment_text g)
@@ -63,8 +70,8 @@ op_text (Fence number item traps) =
     codes "fence " ++ decimal number ++ flat_map (λ t. next_word (trap_text t)) traps
     ++ flat_map (λ q. next_word (qubit_text q)) item.qubits
 
--- whether the text of an operation is short enough to go in one piece: that of an item with no angles, and that
--- of an operation that moves ions or qubits
+-- whether the text of an operation is short enough to go in one piece: that of an item with no angles and no condition,
+-- and that of an operation that moves ions or qubits
 abbrev pub is_short : OpKind → Bool
 is_short (Split t e g) = true
 is_short (Move g) = true
@@ -73,5 +80,5 @@ is_short (Leave j g) = true
 is_short (Merge g t e) = true
 is_short (Rot t p) = true
 is_short (GSwap t low high) = true
-is_short (Item number t item at) = length item.angles == 0
+is_short (Item number t item at) = length item.angles == 0 && is_none item.cond
 is_short (Fence number item traps) = false

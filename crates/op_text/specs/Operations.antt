@@ -1,5 +1,5 @@
 -- The lines of operations.
-use Rattle.std.specs.Prelude.{ℕ, take, Bool, true, false, not, ◌&&◌, ◌||◌, ◌==◌, nat_lt, List, [], ◌∷◌, ◌++◌, length, map, codes, bytes_eq, if◌then◌else◌, Result, Ok, Err, None, zip, decimal}
+use Rattle.std.specs.Prelude.{ℕ, take, Bool, true, false, not, ◌&&◌, ◌==◌, nat_lt, List, [], ◌∷◌, ◌++◌, length, map, codes, bytes_eq, if◌then◌else◌, Result, Ok, Err, Option, Some, None, zip, decimal}
 use Rattle.qccd_base.specs.declared.names.TrapId.{TrapId}
 use Rattle.qccd_base.specs.declared.names.SegId.{SegId}
 use Rattle.qccd_base.specs.declared.names.JuncId.{JuncId}
@@ -8,15 +8,16 @@ use Rattle.qccd_base.specs.declared.names.Bit.{Bit}
 use Rattle.qccd_base.specs.declared.names.End.{End}
 use Rattle.qccd_circuit.specs.declared.kinds.ItemKind.{ItemKind}
 use Rattle.qccd_circuit.specs.declared.kinds.ItemKind.TheVariants.{Gate1, Gate2, Measure, Reset, Barrier}
+use Rattle.qccd_circuit.specs.declared.kinds.Cond.{Cond}
 use Rattle.qccd_circuit.specs.Item.{ItemData, are_distinct}
 use Rattle.op_table.specs.Op.{are_ascending}
 use Rattle.op_table.specs.declared.kinds.OpKind.{OpKind}
 use Rattle.op_table.specs.declared.kinds.OpKind.TheVariants.{Split, Move, Enter, Leave, Merge, Rot, GSwap, Item, Fence}
 use Rattle.op_text.specs.declared.kind.AsmKind.{AsmKind}
-use Rattle.op_text.specs.declared.kind.AsmKind.TheVariants.{Word, NotBuilt}
+use Rattle.op_text.specs.declared.kind.AsmKind.TheVariants.{Word}
 use Rattle.op_text.specs.OpText.{trap_text, qubit_text, bit_text, operand_text, angles_text}
-use Rattle.op_text.specs.Steps.{◌>>=◌, Check, judged}
-use Rattle.op_text.specs.Slots.{Slot, Gate, number_slot, greatest, end_slot, trap_slot, segment_slot, junction_slot, qubit_slot, bit_slot, operand_slot, gate_slot}
+use Rattle.op_text.specs.Steps.{◌>>=◌}
+use Rattle.op_text.specs.Slots.{Slot, Gate, number_slot, greatest, end_slot, trap_slot, segment_slot, junction_slot, qubit_slot, bit_slot, count_slot, value_slot, operand_slot, gate_slot}
 use Rattle.op_text.specs.Shapes.{Reading, Shape, first_word, read_one, one, ◌▸◌, as_value, whole}
 
 -- ---- the words of each operation behind its name
@@ -51,35 +52,48 @@ item_shape = one (number_slot greatest) ▸ (one gate_slot ▸ (one trap_slot �
 
 -- ---- items
 
--- what stands behind the first qubit: a second one, and bits
+-- what stands behind the first qubit: a second one, or a bit, and a condition
 pub record Tail : Type 0 where
   pub second : List (Qubit × ℕ)
   pub bits : List Bit
+  pub cond : Option Cond
 
--- no condition may follow an item yet
-abbrev pub is_if : List (List ℕ) → Bool
-is_if [] = false
-is_if (word ∷ more) = bytes_eq word (codes "if")
+-- the words of a condition behind `if`: the first bit, how many there are, and their value
+abbrev pub cond_at : List (List ℕ) → Reading Cond
+cond_at words =
+    read_one bit_slot words >>= λ b. read_one (count_slot b.0) b.1 >>= λ n. read_one value_slot n.1
+    >>= λ v. Ok (record { first = b.0; count = n.0; value = v.0 }, v.1)
 
-abbrev pub ends_item : Tail → List (List ℕ) → Reading Tail
-ends_item tail words = if is_if words then Err NotBuilt else Ok (tail, words)
+-- a condition, where the next word begins one
+abbrev pub condition_at : List (List ℕ) → Reading (Option Cond)
+condition_at [] = Ok (None, [])
+condition_at (word ∷ more) =
+    if bytes_eq word (codes "if") then (cond_at more >>= λ c. Ok (Some c.0, c.1))
+    else Ok (None, word ∷ more)
 
--- a second qubit, or the end of the line
+-- a condition comes last
+abbrev pub ends_item : List (Qubit × ℕ) → List Bit → List (List ℕ) → Reading Tail
+ends_item second bits words = condition_at words >>= λ c. Ok (record { second = second; bits = bits; cond = c.0 }, c.1)
+
+-- whether no second qubit may follow: at the end of the line, and at a condition
+abbrev pub is_last : List (List ℕ) → Bool
+is_last [] = true
+is_last (word ∷ more) = bytes_eq word (codes "if")
+
 abbrev pub second_at : List (List ℕ) → Reading Tail
-second_at [] = Ok (record { second = []; bits = [] }, [])
-second_at (word ∷ more) =
-    if bytes_eq word (codes "if") then Err NotBuilt
-    else read_one operand_slot (word ∷ more) >>= λ q. ends_item (record { second = q.0 ∷ []; bits = [] }) q.1
+second_at words =
+    if is_last words then ends_item [] [] words
+    else read_one operand_slot words >>= λ q. ends_item (q.0 ∷ []) [] q.1
 
 -- the bit of a measurement
 abbrev pub measured_at : List (List ℕ) → Reading Tail
-measured_at words = read_one bit_slot words >>= λ b. ends_item (record { second = []; bits = b.0 ∷ [] }) b.1
+measured_at words = read_one bit_slot words >>= λ b. ends_item [] (b.0 ∷ []) b.1
 
 -- the name decides which words are stated
 abbrev pub tail_at : List ℕ → List (List ℕ) → Reading Tail
 tail_at name words =
     if bytes_eq name (codes "measure") then measured_at words
-    else (if bytes_eq name (codes "reset") then ends_item (record { second = []; bits = [] }) words
+    else (if bytes_eq name (codes "reset") then ends_item [] [] words
     else second_at words)
 
 abbrev pub kind_of : List ℕ → List (Qubit × ℕ) → ItemKind
@@ -97,7 +111,7 @@ item_op head tail =
       angles = head.1.0.angles;
       qubits = head.1.1.1.0 ∷ map (λ q. q.0) tail.second;
       bits = tail.bits;
-      cond = None;
+      cond = tail.cond;
     })
     (head.1.1.1.1 ∷ map (λ q. q.1) tail.second)
 
@@ -162,6 +176,10 @@ read_row (first ∷ more) name words = if bytes_eq name first.name then first.re
 abbrev pub op_at : List (List ℕ) → Reading OpKind
 op_at words = first_word words >>= λ name. read_row op_rows name.0 name.1
 
+abbrev pub cond_words : Option Cond → List (List ℕ)
+cond_words None = []
+cond_words (Some c) = codes "if" ∷ bit_text c.first ∷ decimal c.count ∷ decimal c.value ∷ []
+
 -- the words of an operation's text
 abbrev pub op_words : OpKind → List (List ℕ)
 op_words (Split t e g) = codes "split" ∷ split_shape.words (t, (e, g))
@@ -172,7 +190,7 @@ op_words (Merge g t e) = codes "merge" ∷ merge_shape.words (g, (t, e))
 op_words (Rot t p) = codes "rot" ∷ rot_shape.words (t, p)
 op_words (GSwap t low high) = codes "gswap" ∷ gswap_shape.words (t, (low, high))
 op_words (Item number t item at) =
-    codes "item" ∷ decimal number ∷ (item.name ++ angles_text item.angles) ∷ trap_text t ∷ (map operand_text (zip item.qubits at) ++ map bit_text item.bits)
+    codes "item" ∷ decimal number ∷ (item.name ++ angles_text item.angles) ∷ trap_text t ∷ ((map operand_text (zip item.qubits at) ++ map bit_text item.bits) ++ cond_words item.cond)
 op_words (Fence number item traps) = codes "fence" ∷ decimal number ∷ (map trap_text traps ++ map qubit_text item.qubits)
 
 -- what a line whose words are all right may still break: the order of positions, the item rule, the order of traps

@@ -2,7 +2,7 @@
 use Rattle.std.specs.Prelude.{ℕ, List, [], ◌∷◌, ◌++◌, Bool, true, false, Result, Ok, Err, if◌then◌else◌}
 use Rattle.op_text.specs.declared.kind.AsmKind.{AsmKind}
 use Rattle.op_text.specs.declared.kind.AsmKind.TheVariants.{Word}
-use Rattle.op_text.specs.Steps.{◌>>=◌, judged}
+use Rattle.op_text.specs.Steps.{◌>>=◌}
 use Rattle.op_text.specs.Slots.{Slot}
 
 -- what was read of the words of a line, and the words that are left; or the refusal of the first offending word

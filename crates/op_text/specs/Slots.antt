@@ -1,7 +1,7 @@
 -- The words of a line, one by one: which refusals apply to a word, its value where none does, and the word of a value.
 -- Of the refusals that apply to a word the first in the order Number, Count, NotBuilt, TooMany, Word decides, so each list
 -- of checks stands in that order.
-use Rattle.std.specs.Prelude.{ℕ, ◌+◌, Bool, true, false, ◌&&◌, ◌||◌, not, ◌==◌, nat_lt, List, [], ◌∷◌, ◌++◌, length, take, drop, codes, decimal, bytes_eq, if◌then◌else◌, Result, Ok, Err}
+use Rattle.std.specs.Prelude.{ℕ, ◌+◌, ◌-◌, ◌^◌, Bool, false, ◌&&◌, ◌||◌, not, ◌==◌, nat_lt, nat_le, List, [], ◌∷◌, ◌++◌, length, drop, codes, decimal, bytes_eq, if◌then◌else◌, Result, Ok, Err}
 use Rattle.std.specs.Char.{is_ascii_digit}
 use Rattle.std.specs.List.{list_all, list_any, slice_split}
 use Rattle.std.specs.Str.Parse.{digits_value}
@@ -16,7 +16,7 @@ use Rattle.qccd_base.specs.declared.names.End.TheVariants.{Left, Right}
 use Rattle.qccd_circuit.specs.Item.{is_word, is_angle_byte}
 use Rattle.op_text.specs.OpText.{trap_text, segment_text, junction_text, qubit_text, bit_text, end_text, operand_text, angles_text}
 use Rattle.op_text.specs.declared.kind.AsmKind.{AsmKind}
-use Rattle.op_text.specs.declared.kind.AsmKind.TheVariants.{Word, Number, Count, NotBuilt, TooMany}
+use Rattle.op_text.specs.declared.kind.AsmKind.TheVariants.{Word, Number, Count, TooMany}
 use Rattle.op_text.specs.Steps.{◌>>=◌, Check, judged}
 
 pub record Slot (A : Type 0) : Type 0 where
@@ -117,6 +117,25 @@ bit_slot = record { read = λ word. lettered 98 65535 word >>= λ n. Ok (bit n);
 -- the trap of a chain's line
 abbrev pub next_trap_slot : ℕ → Slot ℕ
 next_trap_slot next = record { read = λ word. lettered 84 255 word >>= next_only next; text = λ t. trap_text (trap t) }
+
+-- ---- a condition
+
+-- how many bits it may have behind the first: one at least, and none above the last number of a bit
+abbrev pub is_count : Bit → ℕ → Bool
+is_count first n = nat_le 1 n && nat_le n 65535 && nat_le (first.0 + n) 65536
+
+abbrev pub counted_from : Bit → ℕ → Result ℕ AsmKind
+counted_from first n = if is_count first n then Ok n else Err Word
+
+abbrev pub count_slot : Bit → Slot ℕ
+count_slot first = record { read = λ word. (number_slot greatest).read word >>= counted_from first; text = decimal }
+
+-- the greatest value of bits
+abbrev pub greatest_value : ℕ
+greatest_value = 2 ^ 128 - 1
+
+abbrev pub value_slot : Slot ℕ
+value_slot = number_slot greatest_value
 
 -- ---- a qubit at a position
 

@@ -1,5 +1,5 @@
 -- One step of reading after another, up to the first refusal.
-use Rattle.std.specs.Prelude.{◌≡◌, Bool, List, [], ◌∷◌, Result, Ok, Err, if◌then◌else◌}
+use Rattle.std.specs.Prelude.{Bool, List, [], ◌∷◌, Result, Ok, Err, if◌then◌else◌}
 use Rattle.op_text.specs.declared.kind.AsmKind.{AsmKind}
 
 infixl 10 ◌>>=◌

@@ -1,6 +1,6 @@
 //! Operations whose texts are short, put in front of a piece.
 
-ghost use Rattle.std.specs.Prelude.{◌≡◌, ◌≢◌, ◌+◌, ◌≤◌, ◌==◌, ◌++◌, [], codes, flat_map, length, zip, decimal, true, false};
+ghost use Rattle.std.specs.Prelude.{◌≡◌, ◌≢◌, ◌+◌, ◌≤◌, ◌==◌, ◌++◌, [], codes, flat_map, length, zip, decimal, true, false, ◌&&◌, None, is_none};
 ghost use Rattle.qccd_circuit.specs.declared.kinds.ItemKind.TheVariants.{Barrier};
 ghost use Rattle.op_table.specs.declared.kinds.OpKind.TheVariants as op;
 ghost use Rattle.op_text.specs.OpText.{op_text, is_short, item_text, end_text, operand_text, trap_text, bit_text, next_word};
@@ -136,12 +136,13 @@ fn put_gate(piece: &mut Piece, number: u32, name: &[u8], trap: TrapId)
     piece.put_labelled(b"item ", u64::from(number));
 }
 
-// An item with no angles.
+// An item with no angles and no condition.
 fn put_plain_item(piece: &mut Piece, number: u32, trap: TrapId, item: &Item, at: &[u8])
     requires room { 224 ≤ piece.old.room }
     requires kind { item.now.kind ≢ Barrier }
     requires places { length at.now ≡ length item.now.qubits }
     requires plain { item.now.angles ≡ [] }
+    requires unconditional { item.now.cond ≡ None }
     ensures text { piece.new.text ≡ item_text number trap item.now at.now ++ piece.old.text }
     ensures room { piece.old.room ≤ piece.new.room + 224 }
 {
@@ -151,17 +152,17 @@ fn put_plain_item(piece: &mut Piece, number: u32, trap: TrapId, item: &Item, at:
     put_gate(piece, number, item.name().as_slice(), trap);
 }
 
-// An item, where it has no angles, and whether it has none.
+// An item, where it has no angles and no condition, and whether it has none.
 fn put_item(piece: &mut Piece, number: u32, trap: TrapId, item: &Item, at: &[u8]) -> bool
     requires room { 224 ≤ piece.old.room }
     requires kind { item.now.kind ≢ Barrier }
     requires places { length at.now ≡ length item.now.qubits }
-    ensures value { result ≡ (length item.now.angles == 0) }
+    ensures value { result ≡ (length item.now.angles == 0 && is_none item.now.cond) }
     ensures text { result ≡ true → piece.new.text ≡ item_text number trap item.now at.now ++ piece.old.text }
     ensures room { piece.old.room ≤ piece.new.room + 224 }
     ensures long { result ≡ false → piece.new ≡ piece.old }
 {
-    if !item.angles().is_empty() {
+    if !item.angles().is_empty() || item.cond().is_some() {
         return false;
     }
     put_plain_item(piece, number, trap, item, at);

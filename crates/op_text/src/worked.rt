@@ -6,7 +6,7 @@ ghost use Rattle.qccd_base.specs.declared.names.End.TheVariants.{Left, Right};
 ghost use Rattle.qccd_circuit.specs.Example.{barrier_over, cx_on, h_on, measure_into, reset_of};
 ghost use Rattle.op_table.specs.declared.kinds.OpKind.TheVariants.{Split, Move, Enter, Leave, Merge, Rot, GSwap, Item, Fence};
 ghost use Rattle.op_text.specs.OpText.{op_text};
-ghost use Rattle.op_text.specs.Example.{turned};
+ghost use Rattle.op_text.specs.Example.{turned, under};
 
 /// An ion leaves a chain, and joins one, at either end.
 pub fn splits_and_merges()
@@ -40,6 +40,13 @@ pub fn gates()
 pub fn measurement_and_reset()
     ensures measure { op_text (Item 7 (trap 0) (measure_into 3 5) (2 ∷ [])) ≡ codes "item 7 measure T0 q3@2 b5" }
     ensures reset { op_text (Item 4 (trap 2) (reset_of 1) (0 ∷ [])) ≡ codes "item 4 reset T2 q1@0" }
+{}
+
+/// A condition comes last: its first bit, how many there are, and their value.
+pub fn conditions()
+    ensures gate { op_text (Item 1 (trap 1) (under (h_on 1) 0 2 2) (0 ∷ [])) ≡ codes "item 1 h T1 q1@0 if b0 2 2" }
+    ensures two { op_text (Item 2 (trap 0) (under (cx_on 0 1) 3 4 9) (0 ∷ 1 ∷ [])) ≡ codes "item 2 cx T0 q0@0 q1@1 if b3 4 9" }
+    ensures measure { op_text (Item 7 (trap 0) (under (measure_into 3 5) 65535 1 0) (2 ∷ [])) ≡ codes "item 7 measure T0 q3@2 b5 if b65535 1 0" }
 {}
 
 /// A fence names its traps, and then its qubits in their order.

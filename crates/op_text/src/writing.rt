@@ -1,14 +1,14 @@
 //! Operations, sent as their texts.
 
-ghost use Rattle.std.specs.Prelude.{◌≡◌, ◌∷◌, ◌++◌, codes, false, flat_map, length, zip, decimal};
+ghost use Rattle.std.specs.Prelude.{◌≡◌, ◌∷◌, ◌++◌, Some, codes, false, flat_map, length, zip, decimal};
 ghost use Rattle.qccd_io.specs.Sends.{Sends};
 ghost use Rattle.op_table.specs.declared.kinds.OpKind.TheVariants as op;
-ghost use Rattle.op_text.specs.OpText.{op_text, is_short, angles_text, operand_text, trap_text, qubit_text, bit_text, next_word};
+ghost use Rattle.op_text.specs.OpText.{op_text, is_short, angles_text, cond_text, operand_text, trap_text, qubit_text, bit_text, next_word};
 
 use crate::pieces::{put_op, put_operand};
 use op_table::{Op, OpKind};
-use qccd_base::{Bit, Qubit, TrapId, number_text};
-use qccd_circuit::{Angle, Item};
+use qccd_base::{Bit, Qubit, TrapId, number_text, wide_text};
+use qccd_circuit::{Angle, Cond, Item};
 use qccd_io::{Failed, Piece, Sink, send, send_all, send_labelled};
 
 // How many bytes a name has at most.
@@ -209,6 +209,37 @@ fn send_gate<S: Sink>(sink: &mut S, number: u32, item: &Item) -> Result<(), Fail
     send_angles(sink, item.angles().as_slice())
 }
 
+// A condition behind all else, where the item has one.
+fn send_cond<S: Sink>(sink: &mut S, cond: &Option<Cond>) -> Result<(), Failed>
+    ensures { Sends S.taken S.faults S.behind sink.old sink.new result (cond_text cond.now) }
+{
+    match cond {
+        None => Ok(()),
+        Some(cond) => send_some_cond(sink, *cond),
+    }
+}
+
+fn send_some_cond<S: Sink>(sink: &mut S, cond: Cond) -> Result<(), Failed>
+    ensures { Sends S.taken S.faults S.behind sink.old sink.new result (cond_text (Some cond)) }
+{
+    let value = wide_text(cond.value);
+    let mut piece = Piece::new();
+    piece.put(value.as_bytes());
+    piece.put(b" ");
+    piece.put_labelled(b" ", u64::from(cond.count));
+    piece.put_labelled(b" if b", u64::from(cond.first.0));
+    send(sink, piece.as_slice())
+}
+
+// What stands behind an item's qubits: the bits that it writes, and its condition.
+#[tactic(auto, using(qccd_io::proofs::Appended::sends))]
+fn send_end<S: Sink>(sink: &mut S, bits: &[Bit], cond: &Option<Cond>) -> Result<(), Failed>
+    ensures { Sends S.taken S.faults S.behind sink.old sink.new result (flat_map (λ b. next_word (bit_text b)) bits.now ++ cond_text cond.now) }
+{
+    send_bits(sink, bits)?;
+    send_cond(sink, cond)
+}
+
 fn send_item<S: Sink>(
     sink: &mut S,
     number: u32,
@@ -221,7 +252,7 @@ fn send_item<S: Sink>(
 {
     send_gate(sink, number, item)?;
     send_place(sink, trap, item.qubits().as_slice(), at)?;
-    send_bits(sink, item.bits().as_slice())
+    send_end(sink, item.bits().as_slice(), item.cond())
 }
 
 fn send_fence_number<S: Sink>(sink: &mut S, number: u32) -> Result<(), Failed>

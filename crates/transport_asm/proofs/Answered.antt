@@ -1,14 +1,14 @@
 -- Each text has one answer.
-use Rattle.std.proofs.Common.{◌≡◌, ℕ, ◌⊎◌, inl, inr, List, [], ◌∷◌, ◌++◌, map, zip, codes, decimal, Result, Ok, Err, refl, sym, ap, ◌∙◌, append_assoc}
+use Rattle.std.proofs.Common.{◌≡◌, ℕ, ◌⊎◌, inl, inr, List, [], ◌∷◌, ◌++◌, map, zip, codes, decimal, Option, Some, None, Result, Ok, Err, refl, sym, ap, ◌∙◌, append_assoc}
 use Rattle.std.specs.Prelude.{flat_map}
 use Rattle.std.specs.List.{join_with_byte}
 use Rattle.std.proofs.lemmas.List.{append-nil}
-use Rattle.qccd_base.specs.declared.names.End.{End}
+use Rattle.qccd_circuit.specs.declared.kinds.Cond.{Cond}
 use Rattle.op_table.specs.declared.kinds.OpKind.{OpKind}
 use Rattle.op_table.specs.declared.kinds.OpKind.TheVariants.{Split, Move, Enter, Leave, Merge, Rot, GSwap, Item, Fence}
-use Rattle.op_text.specs.OpText.{op_text, next_word, trap_text, qubit_text, bit_text, operand_text, segment_text, end_text, junction_text, angles_text}
+use Rattle.op_text.specs.OpText.{op_text, next_word, trap_text, qubit_text, bit_text, cond_text, operand_text, segment_text, end_text, angles_text}
 use Rattle.transport_asm.specs.Lines.{Refusal, words_of, line_text}
-use Rattle.op_text.specs.Operations.{read_op, op_words}
+use Rattle.op_text.specs.Operations.{read_op, op_words, cond_words}
 use Rattle.transport_asm.specs.Texts.{RawData, Spells, IsRefusedAt, read_text}
 use Rattle.transport_asm.proofs.Fitting.{FitsOp}
 use Rattle.transport_asm.proofs.LineLaws.{read_is, cut_again, line_text-words_of}
@@ -71,6 +71,13 @@ three a b c = append_assoc a (32 ∷ b) (32 ∷ c)
 four : (a b c d : List ℕ) → ((a ++ 32 ∷ b) ++ 32 ∷ c) ++ d ≡ a ++ 32 ∷ (b ++ 32 ∷ (c ++ d))
 four a b c d = append_assoc (a ++ 32 ∷ b) (32 ∷ c) d ∙ append_assoc a (32 ∷ b) (32 ∷ (c ++ d))
 
+cond_flat : (c : Option Cond) → cond_text c ≡ flat_map next_word (cond_words c)
+cond_flat None = refl
+cond_flat (Some c) = regroup (bit_text c.first) (decimal c.count) (decimal c.value)
+  where
+    regroup : (a b c : List ℕ) → codes " if" ++ next_word a ++ next_word b ++ next_word c ≡ codes " if" ++ (next_word a ++ (next_word b ++ (next_word c ++ [])))
+    regroup a b c = simp (append_assoc, append-nil)
+
 pub op_text-line : (op : OpKind) → op_text op ≡ line_text (op_words op)
 op_text-line (Split t e g) = three (codes "split " ++ trap_text t) (end_text e) (segment_text g)
 op_text-line (Move g) = refl
@@ -81,8 +88,12 @@ op_text-line (Rot t p) = refl
 op_text-line (GSwap t low high) = three (codes "gswap " ++ trap_text t) (decimal low) (decimal high)
 op_text-line (Item number t item at) =
     let gate = item.name ++ angles_text item.angles in
-    let words = map operand_text (zip item.qubits at) ++ map bit_text item.bits in
-    two_lists operand_text bit_text (zip item.qubits at) item.bits (((codes "item " ++ decimal number) ++ 32 ∷ gate) ++ 32 ∷ trap_text t)
+    let front = ((codes "item " ++ decimal number) ++ 32 ∷ gate) ++ 32 ∷ trap_text t in
+    let operands = map operand_text (zip item.qubits at) ++ map bit_text item.bits in
+    let words = operands ++ cond_words item.cond in
+    ap (λ (w : List ℕ). w ++ cond_text item.cond) (two_lists operand_text bit_text (zip item.qubits at) item.bits front)
+    ∙ append_assoc front (flat_map next_word operands) (cond_text item.cond)
+    ∙ ap (λ (w : List ℕ). front ++ w) (ap (λ (w : List ℕ). flat_map next_word operands ++ w) (cond_flat item.cond) ∙ sym (flat_both operands (cond_words item.cond)))
     ∙ ap (λ (w : List ℕ). codes "item " ++ w) (four (decimal number) gate (trap_text t) (flat_map next_word words))
     ∙ ap (λ (w : List ℕ). codes "item " ++ (decimal number ++ 32 ∷ (gate ++ 32 ∷ w))) (sym (join_flat (trap_text t) words))
 op_text-line (Fence number item traps) =

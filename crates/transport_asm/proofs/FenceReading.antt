@@ -1,5 +1,5 @@
 -- The words of fences, as the code reads them.
-use Rattle.std.proofs.Common.{◌≡◌, ℕ, Bool, true, false, cond, not, ◌&&◌, List, [], ◌∷◌, ◌++◌, length, Option, Some, None, Result, Ok, Err, refl, sym, ap, ◌∙◌, subst, append_assoc, ◌<◌, arith}
+use Rattle.std.proofs.Common.{◌≡◌, ℕ, Bool, true, false, cond, ◌&&◌, List, [], ◌∷◌, ◌++◌, Option, Some, None, Result, Ok, Err, refl, sym, ap, ◌∙◌, subst, append_assoc}
 use Rattle.std.specs.Prelude.{if◌then◌else◌}
 use Rattle.std.proofs.lemmas.List.{append-nil}
 use Rattle.qccd_base.specs.declared.names.TrapId.{TrapId}
@@ -14,8 +14,8 @@ use Rattle.transport_asm.specs.declared.faults.OpFault.{OpFault}
 use Rattle.transport_asm.specs.declared.faults.OpFault.TheVariants.{Refused, NoMemory}
 use Rattle.transport_asm.specs.Cursor.{FailsAt}
 use Rattle.transport_asm.specs.Marks.{begins_trap, traps_at, traps_behind, when_distinct, some_qubits, fence_parts, is_below_first, fence_made}
-use Rattle.op_text.specs.Operations.{begins_with, qubits_at, parts_at, barrier_over, fence_at, is_right, keeping_rules, finished}
-use Rattle.op_text.specs.Shapes.{Reading, first_word, read_one, whole}
+use Rattle.op_text.specs.Operations.{begins_with, qubits_at, parts_at, barrier_over, fence_at, keeping_rules, finished}
+use Rattle.op_text.specs.Shapes.{Reading, read_one, whole}
 use Rattle.op_text.specs.Slots.{number_slot, greatest, trap_slot}
 use Rattle.op_text.specs.Steps.{◌>>=◌}
 use Rattle.transport_asm.proofs.ItemLaws.{qubits_take}

@@ -1,5 +1,5 @@
 -- What has a text, word by word as it is read. The definition is `IsWritable`; this form follows the words.
-use Rattle.std.specs.Prelude.{◌≡◌, ℕ, ◌<◌, ◌≤◌, Bool, true, false, ◌⊎◌, List, [], ◌∷◌, ◌++◌, length, map, codes, bytes_eq}
+use Rattle.std.specs.Prelude.{◌≡◌, ℕ, ◌<◌, ◌≤◌, true, false, ◌⊎◌, List, [], ◌∷◌, ◌++◌, Option, Some, None, length, map, codes, bytes_eq}
 use Rattle.std.specs.List.{list_all, list_any, AllByRecursion}
 use Rattle.qccd_base.specs.declared.names.Ion.{Ion}
 use Rattle.qccd_base.specs.declared.names.TrapId.{TrapId}
@@ -8,12 +8,13 @@ use Rattle.qccd_base.specs.declared.names.JuncId.{JuncId}
 use Rattle.qccd_base.specs.declared.names.Qubit.{Qubit}
 use Rattle.qccd_base.specs.declared.names.Bit.{Bit}
 use Rattle.qccd_base.specs.declared.names.End.{End}
+use Rattle.qccd_circuit.specs.declared.kinds.Cond.{Cond}
 use Rattle.qccd_circuit.specs.Item.{is_word}
 use Rattle.op_table.specs.declared.kinds.OpKind.{OpKind}
 use Rattle.op_table.specs.declared.kinds.OpKind.TheVariants.{Split, Move, Enter, Leave, Merge, Rot, GSwap, Item, Fence}
 use Rattle.op_text.specs.OpText.{operand_text, bit_text}
-use Rattle.op_text.specs.Slots.{Gate, greatest, has_angle_form, is_long_angle}
-use Rattle.op_text.specs.Operations.{Tail, item_op, barrier_over, is_right}
+use Rattle.op_text.specs.Slots.{Gate, greatest, greatest_value, is_count, has_angle_form, is_long_angle}
+use Rattle.op_text.specs.Operations.{Tail, cond_words, item_op, barrier_over, is_right}
 use Rattle.transport_asm.specs.Texts.{RawData}
 
 -- what a gate keeps to that has a word
@@ -27,26 +28,36 @@ pub record FitsGate (g : Gate) : Type 0 where
 abbrev pub FitsOperand : Qubit × ℕ → Type 0
 FitsOperand q = (q.0.0 ≤ 65535) × (q.1 ≤ 255)
 
-abbrev pub no_tail : Tail
-no_tail = record { second = []; bits = [] }
+abbrev pub FitsCond : Option Cond → Type 0
+FitsCond None = Unit {0}
+FitsCond (Some c) = (c.first.0 ≤ 65535) × ((is_count c.first c.count ≡ true) × (c.value ≤ greatest_value))
 
-abbrev pub bit_tail : Bit → Tail
-bit_tail b = record { second = []; bits = b ∷ [] }
+abbrev pub no_tail : Option Cond → Tail
+no_tail c = record { second = []; bits = []; cond = c }
 
-abbrev pub second_tail : Qubit × ℕ → Tail
-second_tail q = record { second = q ∷ []; bits = [] }
+abbrev pub bit_tail : Bit → Option Cond → Tail
+bit_tail b c = record { second = []; bits = b ∷ []; cond = c }
+
+abbrev pub second_tail : Qubit × ℕ → Option Cond → Tail
+second_tail q c = record { second = q ∷ []; bits = []; cond = c }
 
 abbrev pub tail_words : Tail → List (List ℕ)
-tail_words tail = map operand_text tail.second ++ map bit_text tail.bits
+tail_words tail = (map operand_text tail.second ++ map bit_text tail.bits) ++ cond_words tail.cond
 
-abbrev pub FitsMore : Tail → Type 0
-FitsMore tail = (tail ≡ no_tail) ⊎ ((q : Qubit × ℕ) × (FitsOperand q × (tail ≡ second_tail q)))
+abbrev pub FitsMore : Option Cond → Tail → Type 0
+FitsMore c tail = (tail ≡ no_tail c) ⊎ ((q : Qubit × ℕ) × (FitsOperand q × (tail ≡ second_tail q c)))
 
-abbrev pub FitsTail : List ℕ → Tail → Type 0
-FitsTail name tail =
-    ((bytes_eq name (codes "measure") ≡ true) × ((b : Bit) × ((b.0 ≤ 65535) × (tail ≡ bit_tail b))))
-    ⊎ (((bytes_eq name (codes "measure") ≡ false) × ((bytes_eq name (codes "reset") ≡ true) × (tail ≡ no_tail)))
-    ⊎ ((bytes_eq name (codes "measure") ≡ false) × ((bytes_eq name (codes "reset") ≡ false) × FitsMore tail)))
+-- what the name asks for, and that condition
+abbrev pub FitsUnder : List ℕ → Option Cond → Tail → Type 0
+FitsUnder name c tail =
+    ((bytes_eq name (codes "measure") ≡ true) × ((b : Bit) × ((b.0 ≤ 65535) × (tail ≡ bit_tail b c))))
+    ⊎ (((bytes_eq name (codes "measure") ≡ false) × ((bytes_eq name (codes "reset") ≡ true) × (tail ≡ no_tail c)))
+    ⊎ ((bytes_eq name (codes "measure") ≡ false) × ((bytes_eq name (codes "reset") ≡ false) × FitsMore c tail)))
+
+pub record FitsTail (name : List ℕ) (tail : Tail) : Type 0 where
+  pub cond : Option Cond
+  pub fits_cond : FitsCond cond
+  pub under : FitsUnder name cond tail
 
 abbrev pub Head : Type 0
 Head = ℕ × (Gate × (TrapId × (Qubit × ℕ)))

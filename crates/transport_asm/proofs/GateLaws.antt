@@ -1,22 +1,21 @@
 -- The words of gates and of qubits at positions.
-use Rattle.std.proofs.Common.{◌≡◌, ℕ, zero, suc, ◌+◌, ◌^◌, ◌<◌, ◌≤◌, Bool, true, false, cond, not, ◌&&◌, ◌||◌, ◌==◌, ◌⊎◌, List, [], ◌∷◌, ◌++◌, length, drop, decimal, codes, Result, Ok, Err, refl, sym, ap, ◌∙◌, subst, arith, inl, inr, append_assoc}
-use Rattle.std.specs.Prelude.{bytes_eq, nat_lt, nat_le}
-use Rattle.std.specs.Char.{is_ascii_digit, is_ascii_alphabetic, is_ascii_alphanumeric, is_ascii_graphic}
-use Rattle.std.specs.List.{list_all, list_any, AllByRecursion, slice_split, join_with_byte}
-use Rattle.std.proofs.lemmas.Bool.{cases_Bool, and_parts, eqb-true, leb-true, ltb-false, le-ltb, ne_eqb}
+use Rattle.std.proofs.Common.{◌≡◌, ℕ, ◌^◌, ◌<◌, ◌≤◌, Bool, true, false, cond, not, ◌&&◌, ◌||◌, ◌==◌, List, [], ◌∷◌, ◌++◌, length, decimal, Ok, Err, refl, sym, ap, ◌∙◌, subst, arith, append_assoc}
+use Rattle.std.specs.Prelude.{nat_lt}
+use Rattle.std.specs.Char.{is_ascii_digit, is_ascii_alphabetic}
+use Rattle.std.specs.List.{list_all, list_any, slice_split, join_with_byte}
+use Rattle.std.proofs.lemmas.Bool.{and_parts, eqb-true, ltb-false, le-ltb, ne_eqb}
 use Rattle.std.proofs.lemmas.List.{append-nil}
 use Rattle.std.proofs.lemmas.List.Splits.{join_with_byte-slice_split}
-use Rattle.std.proofs.lemmas.Fmt.{digits_decimal}
+use Rattle.transport_asm.proofs.WideDigits.{digits_wide}
 use Rattle.qccd_base.specs.declared.names.Qubit.{Qubit}
 use Rattle.qccd_base.specs.Names.{qubit}
 use Rattle.qccd_circuit.specs.Item.{is_word, is_name_byte, is_angle_byte}
 use Rattle.op_text.specs.OpText.{angles_text, operand_text}
 use Rattle.transport_asm.proofs.Fitting.{FitsGate, FitsOperand}
-use Rattle.op_text.specs.declared.kind.AsmKind.{AsmKind}
-use Rattle.op_text.specs.declared.kind.AsmKind.TheVariants.{Word, Number, TooMany}
-use Rattle.op_text.specs.Steps.{◌>>=◌, judged}
-use Rattle.op_text.specs.Slots.{Slot, Gate, before_parenthesis, behind_parenthesis, has_parenthesis, is_closed, without_last, angles_in, has_angle_form, has_gate_form, is_long_angle, passes_gate_limit, gate_checks, gate_slot, are_digits, number_in, is_outside, operand_form, operand_numbers, number_slot, operand_of_parts, at_signs, operand_slot}
-use Rattle.transport_asm.proofs.Numbers.{own, number_takes, two_pass, inside, neither, decimal-number_in, are_digits-decimal, is_outside-decimal, number_in-decimal}
+use Rattle.op_text.specs.declared.kind.AsmKind.TheVariants.{Word, TooMany}
+use Rattle.op_text.specs.Steps.{◌>>=◌}
+use Rattle.op_text.specs.Slots.{Gate, before_parenthesis, behind_parenthesis, has_parenthesis, is_closed, without_last, angles_in, has_angle_form, has_gate_form, is_long_angle, passes_gate_limit, gate_slot, are_digits, operand_form, operand_numbers, number_slot, operand_of_parts, at_signs, operand_slot}
+use Rattle.transport_asm.proofs.Numbers.{own, number_takes, two_pass, neither, are_digits-decimal, is_outside-decimal, number_in-decimal}
 use Rattle.op_text.specs.Shapes.{is_end}
 use Rattle.transport_asm.proofs.Cut.{lacks, EachLacks, split-join, has_word}
 use Rattle.transport_asm.proofs.SlotLaws.{bind_ok, ok_is, is_plain, is_plain_byte, IsSlot, plain_digits}
@@ -237,8 +236,8 @@ operand_parts ((c ∷ digits) ∷ p ∷ []) q e = by_test (operand_form (c ∷ d
         ap (λ (k : ℕ). (k ∷ digits) ∷ p ∷ []) (eqb-true c 113 letter.0) ∙ ap (λ (w : List ℕ). (113 ∷ w) ∷ p ∷ []) first.0 ∙ ap (λ (w : List ℕ). (113 ∷ decimal a.0) ∷ w ∷ []) second.0 in
         subst (λ (v : Qubit × ℕ). ((c ∷ digits) ∷ p ∷ [] ≡ (113 ∷ decimal v.0.0) ∷ decimal v.1 ∷ []) × FitsOperand v) (ok_is (qubit a.0, b.0) q b.2) (made, (first.1, second.1))
 
-lacks_digits : (n : ℕ) → n < 2 ^ 64 → lacks 64 (decimal n) ≡ true
-lacks_digits n small = lacks_all is_ascii_digit 64 refl (decimal n) (digits_decimal own n small)
+lacks_digits : (n : ℕ) → n < 10 ^ 64 → lacks 64 (decimal n) ≡ true
+lacks_digits n small = lacks_all is_ascii_digit 64 refl (decimal n) (digits_wide own n small)
 
 operand_is : (q : Qubit × ℕ) → operand_text q ≡ join_with_byte 64 ((113 ∷ decimal q.0.0) ∷ decimal q.1 ∷ [])
 operand_is q = append_assoc (113 ∷ decimal q.0.0) (64 ∷ []) (decimal q.1)
@@ -254,10 +253,10 @@ operand_law = record {
       let t = operand_parts (at_signs word) q e in
       (sym (join_with_byte-slice_split 64 word) ∙ ap (λ (ps : List (List ℕ)). join_with_byte 64 ps) t.0 ∙ sym (operand_is q), t.1);
   again = λ q fits.
-      let n : q.0.0 < 2 ^ 64 = omega (arith, fits.0) in
-      let p : q.1 < 2 ^ 64 = omega (arith, fits.1) in
+      let n : q.0.0 < 10 ^ 64 = omega (arith, fits.0) in
+      let p : q.1 < 10 ^ 64 = omega (arith, fits.1) in
       ap operand_of_parts (operand_cut q fits)
       ∙ rw (are_digits-decimal q.0.0 n, are_digits-decimal q.1 p, is_outside-decimal 65535 q.0.0 n fits.0, is_outside-decimal 255 q.1 p fits.1, number_in-decimal q.0.0 n, number_in-decimal q.1 p) refl;
   plain = λ q fits.
-      ap is_plain (operand_is q) ∙ plain-append (113 ∷ decimal q.0.0) (64 ∷ decimal q.1) (plain_digits (decimal q.0.0) (digits_decimal own q.0.0 (omega (arith, fits.0)))) (plain_digits (decimal q.1) (digits_decimal own q.1 (omega (arith, fits.1))));
+      ap is_plain (operand_is q) ∙ plain-append (113 ∷ decimal q.0.0) (64 ∷ decimal q.1) (plain_digits (decimal q.0.0) (digits_wide own q.0.0 (omega (arith, fits.0)))) (plain_digits (decimal q.1) (digits_wide own q.1 (omega (arith, fits.1))));
 }

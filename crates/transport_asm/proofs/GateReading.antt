@@ -1,19 +1,15 @@
 -- The words of gates, as the code reads them.
-use Rattle.std.proofs.Common.{◌≡◌, ℕ, zero, suc, ◌+◌, ◌-◌, ◌<◌, ◌≤◌, Bool, true, false, cond, not, ◌&&◌, ◌||◌, ◌==◌, eqb, ltb, List, [], ◌∷◌, ◌++◌, length, take, drop, Option, Some, None, Result, Ok, Err, refl, sym, ap, ◌∙◌, subst, arith, inl, inr}
+use Rattle.std.proofs.Common.{◌≡◌, ℕ, suc, ◌+◌, ◌<◌, ◌≤◌, Bool, true, false, cond, not, ◌&&◌, ◌||◌, ◌==◌, List, [], ◌∷◌, ◌++◌, length, take, drop, Option, Some, None, Err, refl, sym, ap, ◌∙◌, subst, arith, inl, inr}
 use Rattle.std.specs.Prelude.{is_some, IfSome, option_copied, nat_lt}
 use Rattle.std.specs.List.{list_all, list_any, slice_split, join_with_byte, position, position_or_len}
-use Rattle.std.proofs.lemmas.Bool.{cases_Bool, cases_lt, ltb-true, lt-ltb}
+use Rattle.std.proofs.lemmas.Bool.{cases_lt, ltb-true, lt-ltb}
 use Rattle.std.proofs.lemmas.Option.{cond_some, none-some}
 use Rattle.std.proofs.lemmas.List.Splits.{join_with_byte-slice_split}
 use denote.Ref.{Bor}
-use Rattle.qccd_base.specs.declared.names.Qubit.{Qubit}
 use Rattle.qccd_circuit.specs.Item.{is_word}
-use Rattle.op_text.specs.declared.kind.AsmKind.{AsmKind}
-use Rattle.op_text.specs.declared.kind.AsmKind.TheVariants.{Word, TooMany}
-use Rattle.transport_asm.specs.Cursor.{parts_left}
+use Rattle.op_text.specs.declared.kind.AsmKind.TheVariants.{Word}
 use Rattle.transport_asm.specs.Parts.{angles_left}
-use Rattle.op_text.specs.Steps.{judged}
-use Rattle.op_text.specs.Slots.{Gate, before_parenthesis, behind_parenthesis, has_parenthesis, is_closed, without_last, angles_in, has_angle_form, is_long_angle, gate_slot, passes_gate_limit, has_gate_form, are_digits, has_letter, operand_numbers, operand_of_parts}
+use Rattle.op_text.specs.Slots.{before_parenthesis, behind_parenthesis, has_parenthesis, is_closed, without_last, angles_in, has_angle_form, is_long_angle, gate_slot, passes_gate_limit, has_gate_form, are_digits, has_letter, operand_numbers, operand_of_parts}
 use Rattle.transport_asm.proofs.Cut.{split-join}
 use Rattle.transport_asm.proofs.GateLaws.{lacks_all}
 use Rattle.std.specs.Char.{is_ascii_digit}

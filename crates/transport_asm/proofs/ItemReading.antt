@@ -1,17 +1,16 @@
 -- Items and fences, as the code reads them.
-use Rattle.std.proofs.Common.{◌≡◌, ℕ, Bool, true, false, cond, not, ◌&&◌, ◌||◌, ◌==◌, List, [], ◌∷◌, ◌++◌, length, codes, Option, Some, None, Ok, Err, refl, sym, ap, ◌∙◌, subst, arith}
+use Rattle.std.proofs.Common.{◌≡◌, ℕ, Bool, true, false, not, ◌&&◌, ◌||◌, ◌==◌, List, [], ◌∷◌, length, codes, Option, Some, None, Ok, refl, sym, ◌∙◌, subst, arith}
 use Rattle.std.specs.Prelude.{bytes_eq, option_copied, is_some}
 use Rattle.std.specs.List.{slice_split}
 use Rattle.std.proofs.lemmas.Bool.{ne_eqb}
 use denote.Ref.{Bor}
-use Rattle.qccd_base.specs.declared.names.TrapId.{TrapId}
 use Rattle.qccd_base.specs.declared.names.Qubit.{Qubit}
 use Rattle.qccd_base.specs.declared.names.Bit.{Bit}
+use Rattle.qccd_circuit.specs.declared.kinds.Cond.{Cond}
 use Rattle.qccd_circuit.specs.Item.{are_distinct}
 use Rattle.op_table.specs.declared.kinds.OpKind.{OpKind}
 use Rattle.transport_asm.specs.Parts.{angles_left}
 use Rattle.op_text.specs.Shapes.{is_end, whole}
-use Rattle.op_text.specs.Slots.{Gate}
 use Rattle.op_text.specs.Steps.{◌>>=◌}
 use Rattle.op_text.specs.Operations.{Tail, item_op, item_at, fence_at, is_right, keeping_rules, finished}
 use Rattle.transport_asm.specs.Writable.{IsWritable}
@@ -34,13 +33,13 @@ pub neither : (m r : Bool) → (m || r) ≡ false → (m ≡ false) × (r ≡ fa
 neither true r e = absurd cc
 neither false r e = (refl, e)
 
-pub right_one : (head : Head) (bits : List Bit) → (bytes_eq head.1.0.name (codes "measure") || bytes_eq head.1.0.name (codes "reset")) ≡ false
-    → is_right (item_op head (record { second = []; bits = bits })) ≡ not (bytes_eq head.1.0.name (codes "barrier"))
-right_one head bits other = let n = neither (bytes_eq head.1.0.name (codes "measure")) (bytes_eq head.1.0.name (codes "reset")) other in rw (n.0, n.1) refl
+pub right_one : (head : Head) (bits : List Bit) (c : Option Cond) → (bytes_eq head.1.0.name (codes "measure") || bytes_eq head.1.0.name (codes "reset")) ≡ false
+    → is_right (item_op head (record { second = []; bits = bits; cond = c })) ≡ not (bytes_eq head.1.0.name (codes "barrier"))
+right_one head bits c other = let n = neither (bytes_eq head.1.0.name (codes "measure")) (bytes_eq head.1.0.name (codes "reset")) other in rw (n.0, n.1) refl
 
-pub right_two : (head : Head) (q : Qubit × ℕ) (bits : List Bit) → (bytes_eq head.1.0.name (codes "measure") || bytes_eq head.1.0.name (codes "reset")) ≡ false
-    → is_right (item_op head (record { second = q ∷ []; bits = bits })) ≡ (are_distinct (head.1.1.1.0 ∷ q.0 ∷ []) && not (bytes_eq head.1.0.name (codes "barrier")))
-right_two head q bits other = let n = neither (bytes_eq head.1.0.name (codes "measure")) (bytes_eq head.1.0.name (codes "reset")) other in rw (n.0, n.1) refl
+pub right_two : (head : Head) (q : Qubit × ℕ) (bits : List Bit) (c : Option Cond) → (bytes_eq head.1.0.name (codes "measure") || bytes_eq head.1.0.name (codes "reset")) ≡ false
+    → is_right (item_op head (record { second = q ∷ []; bits = bits; cond = c })) ≡ (are_distinct (head.1.1.1.0 ∷ q.0 ∷ []) && not (bytes_eq head.1.0.name (codes "barrier")))
+right_two head q bits c other = let n = neither (bytes_eq head.1.0.name (codes "measure")) (bytes_eq head.1.0.name (codes "reset")) other in rw (n.0, n.1) refl
 
 -- there are angles where there is a parenthesis
 pub none_left : (angles : Option (Bor (List ℕ))) (r : Bool) → is_some angles ≡ not r → r ≡ (length (angles_left (option_copied angles)) == 0)

@@ -1,4 +1,5 @@
 pub mod Cut
+pub mod WideDigits
 pub mod Numbers
 pub mod SlotLaws
 pub mod Fitting

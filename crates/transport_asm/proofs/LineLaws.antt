@@ -1,17 +1,15 @@
 -- Lines: what is read is the line of its value, and the line of a value is read as it.
-use Rattle.std.proofs.Common.{◌≡◌, ℕ, zero, suc, ◌+◌, ◌^◌, ◌<◌, ◌≤◌, Bool, true, false, cond, not, ◌&&◌, ◌||◌, ◌==◌, ◌⊎◌, List, [], ◌∷◌, ◌++◌, map, length, drop, decimal, codes, Result, Ok, Err, refl, sym, ap, ◌∙◌, subst, arith, inl, inr, append_assoc}
-use Rattle.std.specs.List.{list_all, AllByRecursion, slice_split, join_with_byte, flat_map}
+use Rattle.std.proofs.Common.{◌≡◌, ℕ, zero, suc, ◌+◌, ◌<◌, ◌≤◌, Bool, true, false, not, ◌&&◌, ◌==◌, List, [], ◌∷◌, ◌++◌, map, length, Result, Ok, Err, refl, sym, ap, ◌∙◌, subst, arith, append_assoc}
+use Rattle.std.specs.List.{AllByRecursion, slice_split, join_with_byte}
 use Rattle.std.proofs.lemmas.Bool.{and_parts}
 use Rattle.std.proofs.lemmas.List.Splits.{join_with_byte-slice_split, slice_split_at}
 use Rattle.std.proofs.lemmas.List.{append-nil}
 use Rattle.std.proofs.lemmas.List.Elements.{All-from_recursion}
-use Rattle.std.proofs.lemmas.List.Concat.{flat_map-cons}
 use Rattle.op_text.specs.declared.kind.AsmKind.{AsmKind}
-use Rattle.op_text.specs.declared.kind.AsmKind.TheVariants.{Count}
 use Rattle.op_text.specs.Steps.{◌>>=◌}
-use Rattle.transport_asm.specs.Lines.{words_of, Unread, Refusal, refused, Steps, told, line_in, line_at, numbered, ends_in, ended, line_text, lines_text, numbered_lines, all_of, Block, line_block, ◌▹◌, read_all}
+use Rattle.transport_asm.specs.Lines.{words_of, Unread, Refusal, told, line_in, line_at, numbered, ends_in, ended, line_text, lines_text, numbered_lines, all_of, Block, line_block, ◌▹◌, read_all}
 use Rattle.transport_asm.proofs.Cut.{lacks, EachLacks, All-lacks, split-join}
-use Rattle.transport_asm.proofs.SlotLaws.{bind_ok, is_plain_byte, is_plain, EachPlain}
+use Rattle.transport_asm.proofs.SlotLaws.{bind_ok, is_plain, EachPlain}
 
 -- ---- plain words
 

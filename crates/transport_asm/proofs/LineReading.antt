@@ -1,5 +1,5 @@
 -- Lines, as the code reads them.
-use Rattle.std.proofs.Common.{◌≡◌, ℕ, zero, suc, ◌+◌, ◌-◌, ◌<◌, Bool, true, false, cond, ◌==◌, List, [], ◌∷◌, ◌++◌, length, Result, Ok, Err, refl, sym, ap, ◌∙◌, subst, arith, append_assoc}
+use Rattle.std.proofs.Common.{◌≡◌, ℕ, zero, suc, ◌-◌, ◌<◌, Bool, true, false, cond, ◌==◌, List, [], ◌∷◌, ◌++◌, length, Result, Ok, Err, refl, sym, ap, ◌∙◌, subst, arith, append_assoc}
 use Rattle.std.specs.List.{slice_split, onto_first}
 use Rattle.std.proofs.lemmas.List.{append-nil}
 use Rattle.qccd_base.specs.declared.names.Ion.{Ion}
@@ -9,9 +9,9 @@ use Rattle.transport_asm.specs.declared.faults.AsmFault.{AsmFault}
 use Rattle.transport_asm.specs.declared.faults.AsmFault.TheVariants.{Refused, NoMemory}
 use Rattle.op_text.specs.Steps.{◌>>=◌}
 use Rattle.op_text.specs.Shapes.{is_end}
-use Rattle.transport_asm.specs.Lines.{Unread, Refusal, refused, Steps, all_of, ends_in, ended}
+use Rattle.transport_asm.specs.Lines.{Unread, Refusal, refused, all_of, ends_in, ended}
 use Rattle.transport_asm.specs.LineCursor.{Fails, ion_next}
-use Rattle.transport_asm.specs.Texts.{RawData, ion_at, ions_at, program_block, value_of, raw_of, read_text}
+use Rattle.transport_asm.specs.Texts.{RawData, ion_at, ions_at, program_block, value_of, read_text}
 use Rattle.transport_asm.proofs.Cut.{has_word}
 use Rattle.transport_asm.proofs.SlotLaws.{bind_ok, ok_is}
 

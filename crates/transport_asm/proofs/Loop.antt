@@ -5,7 +5,7 @@ use Rattle.op_text.specs.declared.kind.AsmKind.{AsmKind}
 use Rattle.transport_asm.specs.declared.faults.AsmFault.{AsmFault}
 use Rattle.transport_asm.specs.declared.faults.AsmFault.TheVariants.{Refused, NoMemory}
 use Rattle.op_text.specs.Steps.{◌>>=◌}
-use Rattle.transport_asm.specs.Lines.{Unread, Refusal, refused, Steps, line_at, numbered}
+use Rattle.transport_asm.specs.Lines.{Unread, refused, Steps, line_at, numbered}
 use Rattle.transport_asm.specs.LineCursor.{Fails}
 
 -- what was read before, and what is still read

@@ -1,5 +1,5 @@
 -- The qubits of a list that were seen.
-use Rattle.std.proofs.Common.{◌≡◌, ℕ, zero, suc, ◌+◌, ◌<◌, ◌≤◌, nat_lt, Bool, true, false, cond, not, ◌&&◌, ◌||◌, ◌==◌, List, [], ◌∷◌, ◌++◌, length, Option, Some, None, Result, Ok, Err, refl, sym, ap, ap₂, ◌∙◌, subst, arith, append_assoc}
+use Rattle.std.proofs.Common.{◌≡◌, ℕ, ◌<◌, nat_lt, Bool, true, false, cond, not, ◌&&◌, ◌||◌, ◌==◌, List, [], ◌∷◌, ◌++◌, length, Option, Some, None, Ok, Err, refl, sym, ap, ap₂, ◌∙◌, subst, arith, append_assoc}
 use Rattle.std.specs.List.{list_any}
 use Rattle.std.specs.BTreeMap.{is_at}
 use Rattle.std.specs.BTreeSet.{BTreeSet, contains, keys, Updates}
@@ -23,7 +23,7 @@ use Rattle.op_text.specs.Slots.{qubit_slot}
 use Rattle.op_text.specs.Shapes.{Reading, read_one}
 use Rattle.op_text.specs.Operations.{qubits_at}
 use Rattle.transport_asm.specs.Cursor.{words_left}
-use Rattle.transport_asm.specs.Marks.{AreMarked, IsKept, when_distinct, fence_qubits}
+use Rattle.transport_asm.specs.Marks.{AreMarked, IsKept, when_distinct}
 use Rattle.transport_asm.proofs.SlotLaws.{bind_ok, ok_is}
 
 -- ---- one qubit more at the end

@@ -1,22 +1,17 @@
 -- Operations: what is read is the words of its value, and the words of an operation are read as it.
-use Rattle.std.proofs.Common.{◌≡◌, ℕ, zero, suc, ◌+◌, ◌^◌, ◌<◌, ◌≤◌, Bool, true, false, cond, not, ◌&&◌, ◌||◌, ◌==◌, ◌⊎◌, List, [], ◌∷◌, ◌++◌, length, drop, decimal, codes, Result, Ok, Err, refl, sym, ap, ◌∙◌, subst, arith, inl, inr, append_assoc}
-use Rattle.std.specs.Prelude.{bytes_eq, take}
+use Rattle.std.proofs.Common.{◌≡◌, ℕ, ◌<◌, Bool, true, false, cond, List, [], ◌∷◌, ◌++◌, length, codes, Ok, Err, refl, sym, ap, ◌∙◌, subst, arith}
+use Rattle.std.specs.Prelude.{bytes_eq}
 use Rattle.std.specs.List.{AllByRecursion}
 use Rattle.std.proofs.lemmas.Slice.Eq.{bytes_eq-Decides}
-use Rattle.qccd_base.specs.declared.names.TrapId.{TrapId}
-use Rattle.qccd_base.specs.declared.names.SegId.{SegId}
-use Rattle.qccd_base.specs.declared.names.JuncId.{JuncId}
-use Rattle.qccd_base.specs.declared.names.End.{End}
 use Rattle.op_table.specs.declared.kinds.OpKind.{OpKind}
 use Rattle.op_table.specs.declared.kinds.OpKind.TheVariants.{Split, Move, Enter, Leave, Merge, Rot, GSwap, Item, Fence}
 use Rattle.transport_asm.proofs.Fitting.{FitsItem, FitsFence, FitsTrap, FitsSegment, FitsJunction, FitsEnd, FitsPosition, FitsWords, FitsOp}
-use Rattle.op_text.specs.declared.kind.AsmKind.{AsmKind}
-use Rattle.op_text.specs.declared.kind.AsmKind.TheVariants.{Word, Number}
-use Rattle.op_text.specs.Steps.{◌>>=◌, judged}
-use Rattle.op_text.specs.Slots.{Slot, trap_slot, segment_slot, junction_slot, end_slot, number_slot}
-use Rattle.op_text.specs.Shapes.{Reading, Shape, first_word, one, ◌▸◌, as_value, whole}
+use Rattle.op_text.specs.declared.kind.AsmKind.TheVariants.{Word}
+use Rattle.op_text.specs.Steps.{◌>>=◌}
+use Rattle.op_text.specs.Slots.{trap_slot, segment_slot, junction_slot, end_slot}
+use Rattle.op_text.specs.Shapes.{Shape, one, ◌▸◌, whole}
 use Rattle.op_text.specs.Operations.{split_shape, move_shape, enter_shape, leave_shape, merge_shape, rot_shape, gswap_shape, position_slot, item_at, fence_at, Row, row, op_rows, read_row, op_at, op_words, is_right, keeping_rules, read_op}
-use Rattle.transport_asm.proofs.SlotLaws.{bind_ok, ok_is, IsSlot, IsShape, one_law, both_law, number_law, trap_law, segment_law, junction_law, end_law, EachPlain}
+use Rattle.transport_asm.proofs.SlotLaws.{bind_ok, ok_is, IsShape, one_law, both_law, number_law, trap_law, segment_law, junction_law, end_law, EachPlain}
 use Rattle.transport_asm.proofs.ItemLaws.{item_takes, item_again, item_plain, fence_takes, fence_again, fence_plain}
 use Rattle.transport_asm.proofs.LineLaws.{IsLine}
 

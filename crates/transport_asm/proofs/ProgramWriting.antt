@@ -1,6 +1,5 @@
 -- A program's text in the pieces in which it is sent.
 use Rattle.std.proofs.Common.{◌≡◌, ℕ, zero, suc, ◌+◌, ◌<◌, List, [], ◌∷◌, ◌++◌, map, codes, decimal, length, take, drop, get_or, Option, Some, None, Ok, Err, IsErrAnd, Result, refl, sym, ap, ◌∙◌, subst, arith, append_assoc}
-use Rattle.std.specs.Prelude.{flat_map}
 use Rattle.std.specs.List.{join_with_byte}
 use Rattle.std.proofs.lemmas.Grind.{flat_map-append}
 use Rattle.std.proofs.lemmas.List.{append-nil}
@@ -15,11 +14,11 @@ use Rattle.qccd_io.proofs.Sent.{sent_next, sent_short}
 use Rattle.op_table.specs.declared.kinds.OpKind.{OpKind}
 use Rattle.op_table.specs.declared.kinds.OpKind.TheVariants.{Split, Move, Enter, Leave, Merge, Rot, GSwap, Item, Fence}
 use Rattle.qccd_program.specs.Program.{ProgramData}
-use Rattle.op_text.specs.OpText.{op_text, trap_text, next_word}
+use Rattle.op_text.specs.OpText.{op_text, trap_text}
 use Rattle.op_text.specs.Operations.{op_words}
 use Rattle.transport_asm.specs.Lines.{line_text, lines_text, numbered_lines}
 use Rattle.transport_asm.specs.Texts.{chain_words, op_line_words, size_words, end_words, head_lines, raw_text}
-use Rattle.transport_asm.specs.ProgramText.{program_text, front_text, back_text, numbered_texts, head_text, counts_text, traps_head, ions_text, chain_text, ops_head, op_line_text}
+use Rattle.transport_asm.specs.ProgramText.{program_text, front_text, back_text, numbered_texts, head_text, counts_text, traps_head, chain_text, ops_head, op_line_text}
 use Rattle.transport_asm.proofs.Answered.{op_text-line}
 use Rattle.op_text.proofs.Sending.{join_rest}
 

@@ -1,6 +1,6 @@
 -- The words of an operation are all right, and its rules hold, exactly where it is writable.
-use Rattle.std.proofs.Common.{◌≡◌, ◌≢◌, ℕ, zero, suc, ◌+◌, ◌<◌, ◌≤◌, Bool, true, false, cond, not, ◌&&◌, ◌||◌, ◌==◌, ◌⊎◌, List, [], ◌∷◌, ◌++◌, map, length, codes, Option, Some, None, refl, sym, ap, ◌∙◌, subst, arith, inl, inr}
-use Rattle.std.specs.Prelude.{bytes_eq, nat_lt, nat_le, IsTrue}
+use Rattle.std.proofs.Common.{◌≡◌, ◌≢◌, ℕ, ◌+◌, ◌≤◌, Bool, true, false, not, ◌&&◌, ◌||◌, ◌==◌, List, [], ◌∷◌, map, length, codes, Option, Some, None, refl, sym, ap, ◌∙◌, subst, arith, inl, inr}
+use Rattle.std.specs.Prelude.{bytes_eq, nat_le}
 use Rattle.std.specs.List.{list_all, list_any, AllByRecursion}
 use Rattle.std.proofs.lemmas.Bool.{and_parts, cases_Bool, eqb-true, leb-true, ltb-true, ltb-false, lt-ltb, le-ltb, ne_eqb}
 use Rattle.std.proofs.lemmas.Slice.Eq.{bytes_eq-Decides}
@@ -8,18 +8,18 @@ use Rattle.qccd_base.specs.declared.names.TrapId.{TrapId}
 use Rattle.qccd_base.specs.declared.names.Qubit.{Qubit}
 use Rattle.qccd_base.specs.declared.names.Bit.{Bit}
 use Rattle.qccd_base.specs.declared.names.Ion.{Ion}
-use Rattle.qccd_circuit.specs.Item.{ItemData, Fits, FitsKind, IsGateName, is_word, is_angle, is_angle_byte, are_distinct}
+use Rattle.qccd_circuit.specs.Item.{ItemData, Fits, FitsKind, IsCond, IsGateName, is_angle, is_angle_byte, are_distinct}
 use Rattle.qccd_circuit.specs.declared.kinds.ItemKind.{ItemKind}
 use Rattle.qccd_circuit.specs.declared.kinds.ItemKind.TheVariants.{Gate1, Gate2, Measure, Reset, Barrier}
 use Rattle.qccd_circuit.specs.declared.kinds.Cond.{Cond}
-use Rattle.op_table.specs.Op.{IsOp, are_ascending}
+use Rattle.op_table.specs.Op.{are_ascending}
 use Rattle.op_table.specs.declared.kinds.OpKind.{OpKind}
 use Rattle.op_table.specs.declared.kinds.OpKind.TheVariants.{Split, Move, Enter, Leave, Merge, Rot, GSwap, Item, Fence}
-use Rattle.op_text.specs.Slots.{Gate, greatest, has_angle_form, is_long_angle}
+use Rattle.op_text.specs.Slots.{has_angle_form, is_long_angle}
 use Rattle.op_text.specs.Operations.{Tail, kind_of, item_op, barrier_over, item_is_right, is_right}
 use Rattle.transport_asm.specs.Texts.{RawData}
-use Rattle.transport_asm.specs.Writable.{KeepsLimits, IsWritable, IsWritableChain, IsWritableRaw}
-use Rattle.transport_asm.proofs.Fitting.{FitsGate, FitsOperand, no_tail, bit_tail, second_tail, FitsMore, FitsTail, Head, FitsHead, FitsItem, FitsFence, FitsTrap, FitsQubit, FitsWords, FitsOp, FitsIon, FitsChain, FitsRaw}
+use Rattle.transport_asm.specs.Writable.{KeepsCondLimits, KeepsLimits, IsWritable, IsWritableChain, IsWritableRaw}
+use Rattle.transport_asm.proofs.Fitting.{FitsGate, FitsOperand, FitsCond, no_tail, bit_tail, second_tail, FitsUnder, Head, FitsHead, FitsItem, FitsFence, FitsOp, FitsChain, FitsRaw}
 
 -- ---- from words that are right
 
@@ -63,17 +63,25 @@ item_with kind head tail = record {
   angles = head.1.0.angles;
   qubits = head.1.1.1.0 ∷ map (λ q. q.0) tail.second;
   bits = tail.bits;
-  cond = None;
+  cond = tail.cond;
 }
+
+-- a condition whose words are right keeps its rule and its limits
+cond_is : (c : Option Cond) → FitsCond c → IsCond c × KeepsCondLimits c
+cond_is None fits = (tt, tt)
+cond_is (Some c) fits =
+    let range = and_parts (nat_le 1 c.count && nat_le c.count 65535) (nat_le (c.first.0 + c.count) 65536) fits.1.0 in
+    let small = and_parts (nat_le 1 c.count) (nat_le c.count 65535) range.0 in
+    ((leb-true 1 c.count small.0, leb-true (c.first.0 + c.count) 65536 range.1), (leb-true c.count 65535 small.1, fits.1.1))
 
 abbrev positions : Head → Tail → List ℕ
 positions head tail = head.1.1.1.1 ∷ map (λ q. q.1) tail.second
 
-item_fits : (kind : ItemKind) (head : Head) (tail : Tail) → FitsHead head → FitsKind kind (item_with kind head tail) → are_distinct (item_with kind head tail).qubits ≡ true → Fits (item_with kind head tail)
-item_fits kind head tail fits is distinct = record {
+item_fits : (kind : ItemKind) (head : Head) (tail : Tail) → FitsHead head → FitsCond tail.cond → FitsKind kind (item_with kind head tail) → are_distinct (item_with kind head tail).qubits ≡ true → Fits (item_with kind head tail)
+item_fits kind head tail fits fits_cond is distinct = record {
   name = (fits.1.0.is_name, fits.1.0.short_name);
   angles = (angles_are head.1.0.angles fits.1.0.are_angles fits.1.0.none_long, fits.1.0.few);
-  cond = tt;
+  cond = (cond_is tail.cond fits_cond).0;
   distinct = distinct;
   kind = is;
 }
@@ -86,6 +94,7 @@ record Ruled (kind : ItemKind) (head : Head) (tail : Tail) : Type 0 where
   qubits : AllByRecursion (λ q. q.0 ≤ 65535) (item_with kind head tail).qubits
   bits : AllByRecursion (λ b. b.0 ≤ 65535) tail.bits
   positions_are : AllByRecursion (λ p. p ≤ 255) (positions head tail)
+  cond : KeepsCondLimits tail.cond
 
 name_is : (name stated : List ℕ) → bytes_eq name stated ≡ true → name ≡ stated
 name_is name stated e = (bytes_eq-Decides name stated).0 e
@@ -96,47 +105,51 @@ name_differs name stated e is = let f : true ≡ false = sym ((bytes_eq-Decides 
 no_angles : (head : Head) → (length head.1.0.angles == 0) ≡ true → head.1.0.angles ≡ []
 no_angles head e = no_length head.1.0.angles e
 
-measure_ruled : (head : Head) (b : Bit) → FitsHead head → b.0 ≤ 65535 → bytes_eq head.1.0.name (codes "measure") ≡ true → (length head.1.0.angles == 0) ≡ true → Ruled Measure head (bit_tail b)
-measure_ruled head b fits small is right = record {
+measure_ruled : (head : Head) (b : Bit) (c : Option Cond) → FitsHead head → FitsCond c → b.0 ≤ 65535 → bytes_eq head.1.0.name (codes "measure") ≡ true → (length head.1.0.angles == 0) ≡ true → Ruled Measure head (bit_tail b c)
+measure_ruled head b c fits fc small is right = record {
   no_barrier = λ e. cc;
   lengths = refl;
-  fits = item_fits Measure head (bit_tail b) fits (refl, refl, no_angles head right, name_is head.1.0.name (codes "measure") is) refl;
+  fits = item_fits Measure head (bit_tail b c) fits fc (refl, refl, no_angles head right, name_is head.1.0.name (codes "measure") is) refl;
   qubits = (fits.1.1.1.0, tt);
   bits = (small, tt);
   positions_are = (fits.1.1.1.1, tt);
+  cond = (cond_is c fc).1;
 }
 
-reset_ruled : (head : Head) → FitsHead head → bytes_eq head.1.0.name (codes "reset") ≡ true → (length head.1.0.angles == 0) ≡ true → Ruled Reset head no_tail
-reset_ruled head fits is right = record {
+reset_ruled : (head : Head) (c : Option Cond) → FitsHead head → FitsCond c → bytes_eq head.1.0.name (codes "reset") ≡ true → (length head.1.0.angles == 0) ≡ true → Ruled Reset head (no_tail c)
+reset_ruled head c fits fc is right = record {
   no_barrier = λ e. cc;
   lengths = refl;
-  fits = item_fits Reset head no_tail fits (refl, refl, no_angles head right, name_is head.1.0.name (codes "reset") is) refl;
+  fits = item_fits Reset head (no_tail c) fits fc (refl, refl, no_angles head right, name_is head.1.0.name (codes "reset") is) refl;
   qubits = (fits.1.1.1.0, tt);
   bits = tt;
   positions_are = (fits.1.1.1.1, tt);
+  cond = (cond_is c fc).1;
 }
 
 gate_name : (name : List ℕ) → bytes_eq name (codes "measure") ≡ false → bytes_eq name (codes "reset") ≡ false → not (bytes_eq name (codes "barrier")) ≡ true → IsGateName name
 gate_name name measure reset barrier = (name_differs name (codes "measure") measure, name_differs name (codes "reset") reset, name_differs name (codes "barrier") (not_true (bytes_eq name (codes "barrier")) barrier))
 
-one_ruled : (head : Head) → FitsHead head → IsGateName head.1.0.name → Ruled Gate1 head no_tail
-one_ruled head fits is = record {
+one_ruled : (head : Head) (c : Option Cond) → FitsHead head → FitsCond c → IsGateName head.1.0.name → Ruled Gate1 head (no_tail c)
+one_ruled head c fits fc is = record {
   no_barrier = λ e. cc;
   lengths = refl;
-  fits = item_fits Gate1 head no_tail fits (refl, refl, is) refl;
+  fits = item_fits Gate1 head (no_tail c) fits fc (refl, refl, is) refl;
   qubits = (fits.1.1.1.0, tt);
   bits = tt;
   positions_are = (fits.1.1.1.1, tt);
+  cond = (cond_is c fc).1;
 }
 
-two_ruled : (head : Head) (q : Qubit × ℕ) → FitsHead head → FitsOperand q → IsGateName head.1.0.name → are_distinct (head.1.1.1.0 ∷ q.0 ∷ []) ≡ true → Ruled Gate2 head (second_tail q)
-two_ruled head q fits small is distinct = record {
+two_ruled : (head : Head) (q : Qubit × ℕ) (c : Option Cond) → FitsHead head → FitsCond c → FitsOperand q → IsGateName head.1.0.name → are_distinct (head.1.1.1.0 ∷ q.0 ∷ []) ≡ true → Ruled Gate2 head (second_tail q c)
+two_ruled head q c fits fc small is distinct = record {
   no_barrier = λ e. cc;
   lengths = refl;
-  fits = item_fits Gate2 head (second_tail q) fits (refl, refl, is) distinct;
+  fits = item_fits Gate2 head (second_tail q c) fits fc (refl, refl, is) distinct;
   qubits = (fits.1.1.1.0, (small.0, tt));
   bits = tt;
   positions_are = (fits.1.1.1.1, (small.1, tt));
+  cond = (cond_is c fc).1;
 }
 
 -- the kind that the name and a second qubit make
@@ -159,39 +172,38 @@ RuledBy head tail = Ruled (kind_of head.1.0.name tail.second) head tail
 abbrev RightBy : ItemKind → Head → Tail → Type 0
 RightBy kind head tail = item_is_right kind (item_with kind head tail) ≡ true
 
-ruled : (head : Head) (tail : Tail) → FitsHead head → FitsTail head.1.0.name tail → RightBy (kind_of head.1.0.name tail.second) head tail → RuledBy head tail
-ruled head tail fits (inl (is, (b, (small, tail-is)))) right =
-    let k = kind_measure head.1.0.name (bit_tail b).second is in
-    let right' : RightBy (kind_of head.1.0.name (bit_tail b).second) head (bit_tail b) = subst (λ (t : Tail). RightBy (kind_of head.1.0.name t.second) head t) tail-is right in
-    let made = measure_ruled head b fits small is (subst (λ (k : ItemKind). RightBy k head (bit_tail b)) k right') in
-    subst (λ (t : Tail). RuledBy head t) (sym tail-is) (subst (λ (k : ItemKind). Ruled k head (bit_tail b)) (sym k) made)
-ruled head tail fits (inr (inl (is, (is', tail-is)))) right =
-    let k = kind_reset head.1.0.name no_tail.second is is' in
-    let right' : RightBy (kind_of head.1.0.name no_tail.second) head no_tail = subst (λ (t : Tail). RightBy (kind_of head.1.0.name t.second) head t) tail-is right in
-    let made = reset_ruled head fits is' (subst (λ (k : ItemKind). RightBy k head no_tail) k right') in
-    subst (λ (t : Tail). RuledBy head t) (sym tail-is) (subst (λ (k : ItemKind). Ruled k head no_tail) (sym k) made)
-ruled head tail fits (inr (inr (is, (is', inl tail-is)))) right =
+ruled : (head : Head) (tail : Tail) (c : Option Cond) → FitsHead head → FitsCond c → FitsUnder head.1.0.name c tail → RightBy (kind_of head.1.0.name tail.second) head tail → RuledBy head tail
+ruled head tail c fits fc (inl (is, (b, (small, tail-is)))) right =
+    let k = kind_measure head.1.0.name (bit_tail b c).second is in
+    let right' : RightBy (kind_of head.1.0.name (bit_tail b c).second) head (bit_tail b c) = subst (λ (t : Tail). RightBy (kind_of head.1.0.name t.second) head t) tail-is right in
+    let made = measure_ruled head b c fits fc small is (subst (λ (k : ItemKind). RightBy k head (bit_tail b c)) k right') in
+    subst (λ (t : Tail). RuledBy head t) (sym tail-is) (subst (λ (k : ItemKind). Ruled k head (bit_tail b c)) (sym k) made)
+ruled head tail c fits fc (inr (inl (is, (is', tail-is)))) right =
+    let k = kind_reset head.1.0.name (no_tail c).second is is' in
+    let right' : RightBy (kind_of head.1.0.name (no_tail c).second) head (no_tail c) = subst (λ (t : Tail). RightBy (kind_of head.1.0.name t.second) head t) tail-is right in
+    let made = reset_ruled head c fits fc is' (subst (λ (k : ItemKind). RightBy k head (no_tail c)) k right') in
+    subst (λ (t : Tail). RuledBy head t) (sym tail-is) (subst (λ (k : ItemKind). Ruled k head (no_tail c)) (sym k) made)
+ruled head tail c fits fc (inr (inr (is, (is', inl tail-is)))) right =
     let k = kind_one head.1.0.name is is' in
-    let right' : RightBy (kind_of head.1.0.name no_tail.second) head no_tail = subst (λ (t : Tail). RightBy (kind_of head.1.0.name t.second) head t) tail-is right in
-    let made = one_ruled head fits (gate_name head.1.0.name is is' (subst (λ (k : ItemKind). RightBy k head no_tail) k right')) in
-    subst (λ (t : Tail). RuledBy head t) (sym tail-is) (subst (λ (k : ItemKind). Ruled k head no_tail) (sym k) made)
-ruled head tail fits (inr (inr (is, (is', inr (q, (small, tail-is)))))) right =
+    let right' : RightBy (kind_of head.1.0.name (no_tail c).second) head (no_tail c) = subst (λ (t : Tail). RightBy (kind_of head.1.0.name t.second) head t) tail-is right in
+    let made = one_ruled head c fits fc (gate_name head.1.0.name is is' (subst (λ (k : ItemKind). RightBy k head (no_tail c)) k right')) in
+    subst (λ (t : Tail). RuledBy head t) (sym tail-is) (subst (λ (k : ItemKind). Ruled k head (no_tail c)) (sym k) made)
+ruled head tail c fits fc (inr (inr (is, (is', inr (q, (small, tail-is)))))) right =
     let k = kind_two head.1.0.name q is is' in
-    let right' : RightBy (kind_of head.1.0.name (second_tail q).second) head (second_tail q) = subst (λ (t : Tail). RightBy (kind_of head.1.0.name t.second) head t) tail-is right in
-    let two : RightBy Gate2 head (second_tail q) = subst (λ (k : ItemKind). RightBy k head (second_tail q)) k right' in
+    let right' : RightBy (kind_of head.1.0.name (second_tail q c).second) head (second_tail q c) = subst (λ (t : Tail). RightBy (kind_of head.1.0.name t.second) head t) tail-is right in
+    let two : RightBy Gate2 head (second_tail q c) = subst (λ (k : ItemKind). RightBy k head (second_tail q c)) k right' in
     let parts = and_parts (are_distinct (head.1.1.1.0 ∷ q.0 ∷ [])) (not (bytes_eq head.1.0.name (codes "barrier"))) two in
-    let made = two_ruled head q fits small (gate_name head.1.0.name is is' parts.1) parts.0 in
-    subst (λ (t : Tail). RuledBy head t) (sym tail-is) (subst (λ (k : ItemKind). Ruled k head (second_tail q)) (sym k) made)
+    let made = two_ruled head q c fits fc small (gate_name head.1.0.name is is' parts.1) parts.0 in
+    subst (λ (t : Tail). RuledBy head t) (sym tail-is) (subst (λ (k : ItemKind). Ruled k head (second_tail q c)) (sym k) made)
 
 pub item_writable : (op : OpKind) → FitsItem op → is_right op ≡ true → IsWritable op
 item_writable op fits right =
     let right' : is_right (item_op fits.head fits.tail) ≡ true = subst (λ (o : OpKind). is_right o ≡ true) (sym fits.is) right in
-    let r = ruled fits.head fits.tail fits.fits_head fits.fits_tail right' in
+    let r = ruled fits.head fits.tail fits.fits_tail.cond fits.fits_head fits.fits_tail.fits_cond fits.fits_tail.under right' in
     let made : IsWritable (item_op fits.head fits.tail) = record {
       is_op = (r.no_barrier, r.lengths);
       fits = r.fits;
-      unconditional = refl;
-      limits = (fits.fits_head.0, fits.fits_head.1.1.0, r.qubits, r.bits, r.positions_are);
+      limits = (fits.fits_head.0, fits.fits_head.1.1.0, r.qubits, r.bits, r.positions_are, r.cond);
     } in
     subst IsWritable fits.is made
 
@@ -202,19 +214,18 @@ fence_writable op fits right =
     let made : IsWritable (Fence fits.number (barrier_over fits.qubits) (fits.first ∷ fits.more)) = record {
       is_op = (refl, omega arith, parts.1);
       fits = record { name = (refl, omega arith); angles = (refl, omega arith); cond = tt; distinct = parts.0; kind = (omega (arith, fits.some), refl, refl, refl, refl) };
-      unconditional = refl;
       limits = (fits.small, (fits.fits_first, fits.fits_more), fits.fits_qubits);
     } in
     subst IsWritable fits.is made
 
 pub writable : (op : OpKind) → FitsOp op → IsWritable op
-writable (Split t e g) f = record { is_op = tt; fits = tt; unconditional = tt; limits = (f.fits.0, f.fits.1.1) }
-writable (Move g) f = record { is_op = tt; fits = tt; unconditional = tt; limits = f.fits }
-writable (Enter g j) f = record { is_op = tt; fits = tt; unconditional = tt; limits = f.fits }
-writable (Leave j g) f = record { is_op = tt; fits = tt; unconditional = tt; limits = f.fits }
-writable (Merge g t e) f = record { is_op = tt; fits = tt; unconditional = tt; limits = (f.fits.0, f.fits.1.0) }
-writable (Rot t p) f = record { is_op = tt; fits = tt; unconditional = tt; limits = f.fits }
-writable (GSwap t low high) f = record { is_op = ltb-true low high f.right; fits = tt; unconditional = tt; limits = (f.fits.0, f.fits.1.0, f.fits.1.1) }
+writable (Split t e g) f = record { is_op = tt; fits = tt; limits = (f.fits.0, f.fits.1.1) }
+writable (Move g) f = record { is_op = tt; fits = tt; limits = f.fits }
+writable (Enter g j) f = record { is_op = tt; fits = tt; limits = f.fits }
+writable (Leave j g) f = record { is_op = tt; fits = tt; limits = f.fits }
+writable (Merge g t e) f = record { is_op = tt; fits = tt; limits = (f.fits.0, f.fits.1.0) }
+writable (Rot t p) f = record { is_op = tt; fits = tt; limits = f.fits }
+writable (GSwap t low high) f = record { is_op = ltb-true low high f.right; fits = tt; limits = (f.fits.0, f.fits.1.0, f.fits.1.1) }
 writable (Item number t item at) f = item_writable (Item number t item at) f.fits f.right
 writable (Fence number item traps) f = fence_writable (Fence number item traps) f.fits f.right
 
@@ -257,18 +268,25 @@ record Back (number : ℕ) (t : TrapId) (d : ItemData) (at : List ℕ) : Type 0 
 apart_measure_reset : (name : List ℕ) → name ≡ codes "reset" → bytes_eq name (codes "measure") ≡ false
 apart_measure_reset name is = rw is refl
 
-parts_back : (number : ℕ) (t : TrapId) (kind : ItemKind) (name : List ℕ) (angles : List (List ℕ)) (q : Qubit) (p : ℕ) (second : List (Qubit × ℕ)) (bits : List Bit)
+cond_back : (c : Option Cond) → IsCond c → KeepsCondLimits c → FitsCond c
+cond_back None is limits = tt
+cond_back (Some c) is limits = (omega (arith, is.0, is.1), (rw (le_true 1 c.count is.0, le_true c.count 65535 limits.0, le_true (c.first.0 + c.count) 65536 is.1) refl, limits.1))
+  where
+    le_true : (a b : ℕ) → a ≤ b → nat_le a b ≡ true
+    le_true a b le = grind arith
+
+parts_back : (number : ℕ) (t : TrapId) (kind : ItemKind) (name : List ℕ) (angles : List (List ℕ)) (q : Qubit) (p : ℕ) (second : List (Qubit × ℕ)) (bits : List Bit) (c : Option Cond)
     → FitsHead (number, (record { name = name; angles = angles }, (t, (q, p)))) → kind_of name second ≡ kind
-    → FitsTail name (record { second = second; bits = bits })
-    → item_is_right kind (record { kind = kind; name = name; angles = angles; qubits = q ∷ map (λ o. o.0) second; bits = bits; cond = None }) ≡ true
-    → Back number t (record { kind = kind; name = name; angles = angles; qubits = q ∷ map (λ o. o.0) second; bits = bits; cond = None }) (p ∷ map (λ o. o.1) second)
-parts_back number t kind name angles q p second bits fits is tail right = record {
+    → FitsCond c → FitsUnder name c (record { second = second; bits = bits; cond = c })
+    → item_is_right kind (record { kind = kind; name = name; angles = angles; qubits = q ∷ map (λ o. o.0) second; bits = bits; cond = c }) ≡ true
+    → Back number t (record { kind = kind; name = name; angles = angles; qubits = q ∷ map (λ o. o.0) second; bits = bits; cond = c }) (p ∷ map (λ o. o.1) second)
+parts_back number t kind name angles q p second bits c fits is fc under right = record {
   fits = record {
     head = (number, (record { name = name; angles = angles }, (t, (q, p))));
-    tail = record { second = second; bits = bits };
-    is = ap (λ (k : ItemKind). Item number t (record { kind = k; name = name; angles = angles; qubits = q ∷ map (λ o. o.0) second; bits = bits; cond = None }) (p ∷ map (λ o. o.1) second)) is;
+    tail = record { second = second; bits = bits; cond = c };
+    is = ap (λ (k : ItemKind). Item number t (record { kind = k; name = name; angles = angles; qubits = q ∷ map (λ o. o.0) second; bits = bits; cond = c }) (p ∷ map (λ o. o.1) second)) is;
     fits_head = fits;
-    fits_tail = tail;
+    fits_tail = record { cond = c; fits_cond = fc; under = under };
   };
   right = right;
 }
@@ -282,39 +300,39 @@ abbrev Turns : ℕ → TrapId → ItemKind → List ℕ → List (List ℕ) → 
 Turns number t kind name angles qubits bits c at =
     Fits (item_of kind name angles qubits bits c) → KeepsLimits (Item number t (item_of kind name angles qubits bits c) at) → Back number t (item_of kind name angles qubits bits c) at
 
-gate_one : (number : ℕ) (t : TrapId) (name : List ℕ) (angles : List (List ℕ)) (q : Qubit) (p : ℕ) → Turns number t Gate1 name angles (q ∷ []) [] None (p ∷ [])
-gate_one number t name angles q p = λ fits limits.
+gate_one : (number : ℕ) (t : TrapId) (name : List ℕ) (angles : List (List ℕ)) (q : Qubit) (p : ℕ) (c : Option Cond) → Turns number t Gate1 name angles (q ∷ []) [] c (p ∷ [])
+gate_one number t name angles q p c = λ fits limits.
     let measure = name_false name (codes "measure") fits.kind.2.0 in
     let reset = name_false name (codes "reset") fits.kind.2.1 in
     let barrier = name_false name (codes "barrier") fits.kind.2.2 in
-    parts_back number t Gate1 name angles q p [] [] (limits.0, (gate_back (item_of Gate1 name angles (q ∷ []) [] None) fits, (limits.1, (limits.2.0, limits.4.0)))) (kind_one name measure reset)
-    (inr (inr (measure, (reset, inl refl)))) (not_false (bytes_eq name (codes "barrier")) barrier)
+    parts_back number t Gate1 name angles q p [] [] c (limits.0, (gate_back (item_of Gate1 name angles (q ∷ []) [] c) fits, (limits.1, (limits.2.0, limits.4.0)))) (kind_one name measure reset)
+    (cond_back c fits.cond limits.5) (inr (inr (measure, (reset, inl refl)))) (not_false (bytes_eq name (codes "barrier")) barrier)
 
-gate_two : (number : ℕ) (t : TrapId) (name : List ℕ) (angles : List (List ℕ)) (q r : Qubit) (p s : ℕ) → Turns number t Gate2 name angles (q ∷ r ∷ []) [] None (p ∷ s ∷ [])
-gate_two number t name angles q r p s = λ fits limits.
+gate_two : (number : ℕ) (t : TrapId) (name : List ℕ) (angles : List (List ℕ)) (q r : Qubit) (p s : ℕ) (c : Option Cond) → Turns number t Gate2 name angles (q ∷ r ∷ []) [] c (p ∷ s ∷ [])
+gate_two number t name angles q r p s c = λ fits limits.
     let measure = name_false name (codes "measure") fits.kind.2.0 in
     let reset = name_false name (codes "reset") fits.kind.2.1 in
     let barrier = not_false (bytes_eq name (codes "barrier")) (name_false name (codes "barrier") fits.kind.2.2) in
-    parts_back number t Gate2 name angles q p ((r, s) ∷ []) [] (limits.0, (gate_back (item_of Gate2 name angles (q ∷ r ∷ []) [] None) fits, (limits.1, (limits.2.0, limits.4.0)))) (kind_two name (r, s) measure reset)
-    (inr (inr (measure, (reset, inr ((r, s), ((limits.2.1.0, limits.4.1.0), refl)))))) (both (are_distinct (q ∷ r ∷ [])) (not (bytes_eq name (codes "barrier"))) fits.distinct barrier)
+    parts_back number t Gate2 name angles q p ((r, s) ∷ []) [] c (limits.0, (gate_back (item_of Gate2 name angles (q ∷ r ∷ []) [] c) fits, (limits.1, (limits.2.0, limits.4.0)))) (kind_two name (r, s) measure reset)
+    (cond_back c fits.cond limits.5) (inr (inr (measure, (reset, inr ((r, s), ((limits.2.1.0, limits.4.1.0), refl)))))) (both (are_distinct (q ∷ r ∷ [])) (not (bytes_eq name (codes "barrier"))) fits.distinct barrier)
   where
     both : (a b : Bool) → a ≡ true → b ≡ true → (a && b) ≡ true
     both true true e f = refl
     both true false e f = absurd cc
     both false b e f = absurd cc
 
-measured : (number : ℕ) (t : TrapId) (name : List ℕ) (angles : List (List ℕ)) (q : Qubit) (b : Bit) (p : ℕ) → Turns number t Measure name angles (q ∷ []) (b ∷ []) None (p ∷ [])
-measured number t name angles q b p = λ fits limits.
+measured : (number : ℕ) (t : TrapId) (name : List ℕ) (angles : List (List ℕ)) (q : Qubit) (b : Bit) (p : ℕ) (c : Option Cond) → Turns number t Measure name angles (q ∷ []) (b ∷ []) c (p ∷ [])
+measured number t name angles q b p c = λ fits limits.
     let measure = name_true name (codes "measure") fits.kind.3 in
-    parts_back number t Measure name angles q p [] (b ∷ []) (limits.0, (gate_back (item_of Measure name angles (q ∷ []) (b ∷ []) None) fits, (limits.1, (limits.2.0, limits.4.0)))) (kind_measure name [] measure)
-    (inl (measure, (b, (limits.3.0, refl)))) (ap (λ (angles : List (List ℕ)). length angles == 0) fits.kind.2)
+    parts_back number t Measure name angles q p [] (b ∷ []) c (limits.0, (gate_back (item_of Measure name angles (q ∷ []) (b ∷ []) c) fits, (limits.1, (limits.2.0, limits.4.0)))) (kind_measure name [] measure)
+    (cond_back c fits.cond limits.5) (inl (measure, (b, (limits.3.0, refl)))) (ap (λ (angles : List (List ℕ)). length angles == 0) fits.kind.2)
 
-reset_one : (number : ℕ) (t : TrapId) (name : List ℕ) (angles : List (List ℕ)) (q : Qubit) (p : ℕ) → Turns number t Reset name angles (q ∷ []) [] None (p ∷ [])
-reset_one number t name angles q p = λ fits limits.
+reset_one : (number : ℕ) (t : TrapId) (name : List ℕ) (angles : List (List ℕ)) (q : Qubit) (p : ℕ) (c : Option Cond) → Turns number t Reset name angles (q ∷ []) [] c (p ∷ [])
+reset_one number t name angles q p c = λ fits limits.
     let measure = apart_measure_reset name fits.kind.3 in
     let reset = name_true name (codes "reset") fits.kind.3 in
-    parts_back number t Reset name angles q p [] [] (limits.0, (gate_back (item_of Reset name angles (q ∷ []) [] None) fits, (limits.1, (limits.2.0, limits.4.0)))) (kind_reset name [] measure reset)
-    (inr (inl (measure, (reset, refl)))) (ap (λ (angles : List (List ℕ)). length angles == 0) fits.kind.2)
+    parts_back number t Reset name angles q p [] [] c (limits.0, (gate_back (item_of Reset name angles (q ∷ []) [] c) fits, (limits.1, (limits.2.0, limits.4.0)))) (kind_reset name [] measure reset)
+    (cond_back c fits.cond limits.5) (inr (inl (measure, (reset, refl)))) (ap (λ (angles : List (List ℕ)). length angles == 0) fits.kind.2)
 
 one_each : (qubits : List Qubit) (at : List ℕ) → length qubits ≡ 1 → length at ≡ length qubits → (P : List Qubit → List ℕ → Type 0) → ((q : Qubit) (p : ℕ) → P (q ∷ []) (p ∷ [])) → P qubits at
 one_each [] at one same P made = absurd (omega arith)
@@ -337,34 +355,25 @@ one_bit [] one P made = absurd (omega arith)
 one_bit (b ∷ []) one P made = made b
 one_bit (b ∷ a ∷ bits) one P made = absurd (omega arith)
 
-by_kind : (number : ℕ) (t : TrapId) (kind : ItemKind) (name : List ℕ) (angles : List (List ℕ)) (qubits : List Qubit) (bits : List Bit) (at : List ℕ) → kind ≢ Barrier → length at ≡ length qubits
-    → FitsKind kind (item_of kind name angles qubits bits None) → Turns number t kind name angles qubits bits None at
-by_kind number t Gate1 name angles qubits bits at no_barrier same is =
-    subst (λ (bs : List Bit). Turns number t Gate1 name angles qubits bs None at) (sym is.1)
-    (one_each qubits at is.0 same (λ qs ps. Turns number t Gate1 name angles qs [] None ps) (λ q p. gate_one number t name angles q p))
-by_kind number t Gate2 name angles qubits bits at no_barrier same is =
-    subst (λ (bs : List Bit). Turns number t Gate2 name angles qubits bs None at) (sym is.1)
-    (two_each qubits at is.0 same (λ qs ps. Turns number t Gate2 name angles qs [] None ps) (λ q r p s. gate_two number t name angles q r p s))
-by_kind number t Measure name angles qubits bits at no_barrier same is =
-    one_bit bits is.1 (λ bs. Turns number t Measure name angles qubits bs None at)
-    (λ b. one_each qubits at is.0 same (λ qs ps. Turns number t Measure name angles qs (b ∷ []) None ps) (λ q p. measured number t name angles q b p))
-by_kind number t Reset name angles qubits bits at no_barrier same is =
-    subst (λ (bs : List Bit). Turns number t Reset name angles qubits bs None at) (sym is.1)
-    (one_each qubits at is.0 same (λ qs ps. Turns number t Reset name angles qs [] None ps) (λ q p. reset_one number t name angles q p))
-by_kind number t Barrier name angles qubits bits at no_barrier same is = absurd (no_barrier refl)
+by_kind : (number : ℕ) (t : TrapId) (kind : ItemKind) (name : List ℕ) (angles : List (List ℕ)) (qubits : List Qubit) (bits : List Bit) (c : Option Cond) (at : List ℕ) → kind ≢ Barrier → length at ≡ length qubits
+    → FitsKind kind (item_of kind name angles qubits bits c) → Turns number t kind name angles qubits bits c at
+by_kind number t Gate1 name angles qubits bits c at no_barrier same is =
+    subst (λ (bs : List Bit). Turns number t Gate1 name angles qubits bs c at) (sym is.1)
+    (one_each qubits at is.0 same (λ qs ps. Turns number t Gate1 name angles qs [] c ps) (λ q p. gate_one number t name angles q p c))
+by_kind number t Gate2 name angles qubits bits c at no_barrier same is =
+    subst (λ (bs : List Bit). Turns number t Gate2 name angles qubits bs c at) (sym is.1)
+    (two_each qubits at is.0 same (λ qs ps. Turns number t Gate2 name angles qs [] c ps) (λ q r p s. gate_two number t name angles q r p s c))
+by_kind number t Measure name angles qubits bits c at no_barrier same is =
+    one_bit bits is.1 (λ bs. Turns number t Measure name angles qubits bs c at)
+    (λ b. one_each qubits at is.0 same (λ qs ps. Turns number t Measure name angles qs (b ∷ []) c ps) (λ q p. measured number t name angles q b p c))
+by_kind number t Reset name angles qubits bits c at no_barrier same is =
+    subst (λ (bs : List Bit). Turns number t Reset name angles qubits bs c at) (sym is.1)
+    (one_each qubits at is.0 same (λ qs ps. Turns number t Reset name angles qs [] c ps) (λ q p. reset_one number t name angles q p c))
+by_kind number t Barrier name angles qubits bits c at no_barrier same is = absurd (no_barrier refl)
 
 item_back : (number : ℕ) (t : TrapId) (d : ItemData) (at : List ℕ) → IsWritable (Item number t d at) → Back number t d at
 item_back number t d at is =
-    (subst (λ (c : Option Cond). Turns number t d.kind d.name d.angles d.qubits d.bits c at) (sym is.unconditional)
-    (by_kind number t d.kind d.name d.angles d.qubits d.bits at is.is_op.0 is.is_op.1 (unconditional d.kind d is.unconditional is.fits.kind)))
-    is.fits is.limits
-  where
-    unconditional : (kind : ItemKind) (d : ItemData) → d.cond ≡ None → FitsKind kind d → FitsKind kind (item_of d.kind d.name d.angles d.qubits d.bits None)
-    unconditional Gate1 d none is = is
-    unconditional Gate2 d none is = is
-    unconditional Measure d none is = is
-    unconditional Reset d none is = is
-    unconditional Barrier d none is = (is.0, is.1, is.2, is.3, refl)
+    by_kind number t d.kind d.name d.angles d.qubits d.bits d.cond at is.is_op.0 is.is_op.1 is.fits.kind is.fits is.limits
 
 barrier_is : (d : ItemData) → d.kind ≡ Barrier → d.name ≡ codes "barrier" → d.angles ≡ [] → d.bits ≡ [] → d.cond ≡ None → barrier_over d.qubits ≡ d
 barrier_is d kind name angles bits none =

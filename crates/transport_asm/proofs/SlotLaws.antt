@@ -1,15 +1,12 @@
 -- Slots and shapes: what is read is the text of its value, and the text of a value is read as that value.
-use Rattle.std.proofs.Common.{◌≡◌, ℕ, zero, suc, ◌+◌, ◌^◌, ◌<◌, ◌≤◌, Bool, true, false, not, ◌&&◌, ◌||◌, ◌==◌, List, [], ◌∷◌, ◌++◌, length, drop, decimal, codes, Result, Ok, Err, refl, sym, ap, ◌∙◌, subst, arith, inl, inr, append_assoc}
+use Rattle.std.proofs.Common.{◌≡◌, ℕ, ◌^◌, ◌<◌, ◌≤◌, Bool, true, false, not, ◌&&◌, ◌||◌, ◌==◌, List, [], ◌∷◌, ◌++◌, decimal, codes, Result, Ok, Err, refl, sym, ap, ◌∙◌, subst, arith, inl, inr, append_assoc}
 use Rattle.std.specs.Prelude.{bytes_eq}
 use Rattle.std.specs.Char.{is_ascii_digit}
 use Rattle.std.specs.List.{list_all, AllByRecursion}
-use Rattle.std.proofs.lemmas.Bool.{cases_Bool, and_parts, eqb-true, leb-true, ne_eqb}
+use Rattle.std.proofs.lemmas.Bool.{and_parts, eqb-true, leb-true, ne_eqb}
 use Rattle.std.proofs.lemmas.Bool.Decides.{eqb_tells}
 use Rattle.std.proofs.lemmas.Slice.Eq.{bytes_eq-Decides}
-use Rattle.std.proofs.lemmas.Fmt.{digits_decimal}
-use Rattle.qccd_base.specs.declared.names.TrapId.{TrapId}
-use Rattle.qccd_base.specs.declared.names.SegId.{SegId}
-use Rattle.qccd_base.specs.declared.names.JuncId.{JuncId}
+use Rattle.transport_asm.proofs.WideDigits.{digits_wide}
 use Rattle.qccd_base.specs.declared.names.End.{End}
 use Rattle.qccd_base.specs.declared.names.End.TheVariants.{Left, Right}
 use Rattle.qccd_base.specs.Names.{trap, segment, junction}
@@ -17,8 +14,8 @@ use Rattle.op_text.specs.OpText.{end_text}
 use Rattle.op_text.specs.declared.kind.AsmKind.{AsmKind}
 use Rattle.op_text.specs.declared.kind.AsmKind.TheVariants.{Word, Number}
 use Rattle.op_text.specs.Steps.{◌>>=◌, judged}
-use Rattle.op_text.specs.Slots.{Slot, are_digits, number_in, is_outside, number_slot, has_letter, letter_checks, letter_value, lettered, trap_slot, segment_slot, junction_slot, end_slot, end_in}
-use Rattle.op_text.specs.Shapes.{Reading, Shape, first_word, one, ◌▸◌}
+use Rattle.op_text.specs.Slots.{Slot, number_in, number_slot, lettered, trap_slot, segment_slot, junction_slot, end_slot, end_in}
+use Rattle.op_text.specs.Shapes.{Shape, one, ◌▸◌}
 use Rattle.transport_asm.proofs.Numbers.{own, two_pass, inside, decimal-number_in, number_takes, number_again, are_digits-decimal, is_outside-decimal, number_in-decimal}
 
 -- ---- steps
@@ -109,14 +106,14 @@ plain_digits (d ∷ ds) all = let parts = and_parts _ _ all in rw (plain_digit d
         let low : 48 ≤ d = leb-true _ _ range.0 in
         rw (ne_eqb d 32 (λ is. absurd (omega arith)), ne_eqb d 10 (λ is. absurd (omega arith))) refl
 
-pub number_law : (most : ℕ) → most < 2 ^ 64 → IsSlot (number_slot most) (λ n. n ≤ most)
+pub number_law : (most : ℕ) → most < 10 ^ 64 → IsSlot (number_slot most) (λ n. n ≤ most)
 number_law most small = record {
   takes = λ word n e. number_takes most word n small e;
   again = λ n le. number_again most n small le;
-  plain = λ n le. plain_digits (decimal n) (digits_decimal own n (omega arith));
+  plain = λ n le. plain_digits (decimal n) (digits_wide own n (omega arith));
 }
 
-pub letter_takes : (letter most : ℕ) (word : List ℕ) (n : ℕ) → most < 2 ^ 64 → lettered letter most word ≡ Ok n → (word ≡ letter ∷ decimal n) × (n ≤ most)
+pub letter_takes : (letter most : ℕ) (word : List ℕ) (n : ℕ) → most < 10 ^ 64 → lettered letter most word ≡ Ok n → (word ≡ letter ∷ decimal n) × (n ≤ most)
 letter_takes letter most [] n small e = absurd cc
 letter_takes letter most (c ∷ digits) n small e =
     let passed = two_pass _ _ Number Word (number_in digits) n e in
@@ -129,13 +126,13 @@ letter_takes letter most (c ∷ digits) n small e =
 same : (c : ℕ) → (c == c) ≡ true
 same c = elim (eqb_tells c c) [ inl is ↦ is.0 | inr other ↦ absurd (other.1 refl) ]
 
-pub letter_again : (letter most n : ℕ) → most < 2 ^ 64 → n ≤ most → lettered letter most (letter ∷ decimal n) ≡ Ok n
+pub letter_again : (letter most n : ℕ) → most < 10 ^ 64 → n ≤ most → lettered letter most (letter ∷ decimal n) ≡ Ok n
 letter_again letter most n small le =
-    let below : n < 2 ^ 64 = omega arith in
+    let below : n < 10 ^ 64 = omega arith in
     rw (same letter, are_digits-decimal n below, is_outside-decimal most n below le, number_in-decimal n below) refl
 
 -- a letter and a number, as a value of one number
-pub letter_law : {A : Type 0} (letter most : ℕ) (make : ℕ → A) (number : A → ℕ) → ((n : ℕ) → number (make n) ≡ n) → ((a : A) → make (number a) ≡ a) → most < 2 ^ 64 → is_plain_byte letter ≡ true
+pub letter_law : {A : Type 0} (letter most : ℕ) (make : ℕ → A) (number : A → ℕ) → ((n : ℕ) → number (make n) ≡ n) → ((a : A) → make (number a) ≡ a) → most < 10 ^ 64 → is_plain_byte letter ≡ true
     → IsSlot (record { read = λ word. lettered letter most word >>= λ n. Ok (make n); text = λ a. letter ∷ decimal (number a) }) (λ a. number a ≤ most)
 letter_law {A} letter most make number there back small plain = record {
   takes = λ word value e.
@@ -144,7 +141,7 @@ letter_law {A} letter most make number there back small plain = record {
       let t = letter_takes letter most word b.0 small b.1 in
       subst (λ (a : A). (word ≡ letter ∷ decimal (number a)) × (number a ≤ most)) is (t.0 ∙ ap (λ (n : ℕ). letter ∷ decimal n) (sym (there b.0)), rw there t.1);
   again = λ value fits. rw (letter_again letter most (number value) small fits) (ap (λ (a : A). Ok a) (back value));
-  plain = λ value fits. rw (plain, plain_digits (decimal (number value)) (digits_decimal own (number value) (omega arith))) refl;
+  plain = λ value fits. rw (plain, plain_digits (decimal (number value)) (digits_wide own (number value) (omega arith))) refl;
 }
 
 pub trap_law : IsSlot trap_slot (λ t. t.0 ≤ 255)

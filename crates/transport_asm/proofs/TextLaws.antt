@@ -1,26 +1,26 @@
 -- Program texts: what is read is the text of its value, and the text of a value is read as it.
-use Rattle.std.proofs.Common.{◌≡◌, ℕ, zero, suc, ◌+◌, ◌-◌, ◌^◌, ◌<◌, ◌≤◌, Bool, true, false, cond, not, ◌&&◌, ◌||◌, ◌==◌, ◌⊎◌, List, [], ◌∷◌, ◌++◌, map, length, drop, decimal, codes, Option, Some, None, Result, Ok, Err, refl, sym, ap, ◌∙◌, subst, arith, inl, inr, append_assoc}
+use Rattle.std.proofs.Common.{◌≡◌, ℕ, zero, suc, ◌+◌, ◌-◌, ◌<◌, ◌≤◌, Bool, true, false, cond, not, ◌&&◌, ◌||◌, ◌==◌, ◌⊎◌, List, [], ◌∷◌, ◌++◌, map, length, decimal, codes, Option, Some, None, Result, Ok, Err, refl, sym, ap, ◌∙◌, subst, arith, inl, inr}
 use Rattle.std.specs.Prelude.{bytes_eq, nat_lt}
-use Rattle.std.specs.List.{list_all, AllByRecursion, slice_split, join_with_byte, flat_map}
-use Rattle.std.proofs.lemmas.Bool.{and_parts, cases_Bool, ltb-false, le-ltb, eqb-true, eq-eqb, ne_eqb}
+use Rattle.std.specs.List.{AllByRecursion}
+use Rattle.std.proofs.lemmas.Bool.{ltb-false, le-ltb, eqb-true, ne_eqb}
 use Rattle.std.proofs.lemmas.Bool.Decides.{eqb_tells}
 use Rattle.std.proofs.lemmas.Slice.Eq.{bytes_eq-Decides}
 use Rattle.std.proofs.lemmas.Fmt.{digits_decimal, decimal_digit}
 use Rattle.qccd_base.specs.declared.names.Ion.{Ion}
 use Rattle.qccd_base.specs.declared.names.Mode.{Mode}
 use Rattle.qccd_base.specs.declared.names.Mode.TheVariants.{IonSwap, GateSwap}
-use Rattle.qccd_base.specs.Names.{ion, trap}
+use Rattle.qccd_base.specs.Names.{ion}
 use Rattle.op_table.specs.declared.kinds.OpKind.{OpKind}
 use Rattle.transport_asm.proofs.Fitting.{FitsOp, FitsIon, FitsChain, FitsRaw}
 use Rattle.op_text.specs.declared.kind.AsmKind.{AsmKind}
 use Rattle.op_text.specs.declared.kind.AsmKind.TheVariants.{Header, Word, Number, Count, NotBuilt, TooMany}
 use Rattle.op_text.specs.Steps.{◌>>=◌, judged}
-use Rattle.op_text.specs.Slots.{Slot, are_digits, number_in, is_outside, greatest, fixed_checks, fixed_slot, up_to, size_slot, next_only, next_slot, lettered, next_trap_slot, number_slot}
-use Rattle.op_text.specs.Shapes.{Reading, Shape, first_word, read_one, one, ◌▸◌, is_end, whole, read_line}
+use Rattle.op_text.specs.Slots.{are_digits, number_in, greatest, fixed_slot, up_to, size_slot, next_only, next_slot, lettered, next_trap_slot, number_slot}
+use Rattle.op_text.specs.Shapes.{Shape, read_one, one, ◌▸◌, whole, read_line}
 use Rattle.op_text.specs.Operations.{read_op, op_words}
-use Rattle.transport_asm.specs.Lines.{words_of, Unread, Refusal, refused, Steps, line_at, numbered, ended, line_text, lines_text, numbered_lines, all_of, Block, line_block, ◌▹◌, read_all}
-use Rattle.transport_asm.specs.Texts.{RawData, first_line, header_checks, size_line, where_room, ion_at, ions_at, chain_line, op_line, end_line, read_text, size_words, size, read_counted, counted, chain_words, op_line_words, head_block, head_lines, mode_behind, mode_in, mode_line, mode_slot, mode_text, mode_words, some_mode, version_words, end_words, program_block, raw_of, value_of, raw_text}
-use Rattle.transport_asm.proofs.Numbers.{own, inside, number_takes, number_again, decimal-number_in, are_digits-decimal, is_outside-decimal, number_in-decimal}
+use Rattle.transport_asm.specs.Lines.{Unread, line_at, numbered, line_text, lines_text, numbered_lines, line_block, ◌▹◌, read_all}
+use Rattle.transport_asm.specs.Texts.{RawData, first_line, size_line, where_room, ion_at, ions_at, chain_line, op_line, end_line, read_text, size_words, size, counted, chain_words, op_line_words, head_block, head_lines, mode_behind, mode_in, mode_line, mode_slot, mode_text, mode_words, version_words, end_words, program_block, raw_of, value_of, raw_text}
+use Rattle.transport_asm.proofs.Numbers.{own, number_takes, number_again, decimal-number_in}
 use Rattle.transport_asm.proofs.SlotLaws.{bind_ok, ok_is, is_plain, EachPlain, IsSlot, IsShape, one_law, both_law, plain_digits, one_passes, letter_takes, letter_again}
 use Rattle.transport_asm.proofs.OpLaws.{op_law}
 use Rattle.transport_asm.proofs.LineLaws.{IsLine, IsBlock, line_again, line_law, then_law, numbered_takes, numbered_again, numbered_plain, some_behind, EachLine, all_takes, all_again, read_is}

@@ -24,4 +24,4 @@ as_list None = []
 as_list (Some x) = x ∷ []
 
 abbrev pub tail_of : TailWords → Tail
-tail_of tail = record { second = as_list tail.second; bits = as_list tail.bit }
+tail_of tail = record { second = as_list tail.second; bits = as_list tail.bit; cond = tail.cond }

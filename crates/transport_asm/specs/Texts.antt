@@ -1,19 +1,18 @@
 -- Program texts.
-use Rattle.std.specs.Prelude.{◌≡◌, ℕ, zero, suc, ◌+◌, ◌-◌, Bool, true, false, ◌&&◌, ◌||◌, not, ◌==◌, nat_lt, List, [], ◌∷◌, ◌++◌, map, length, take, codes, decimal, bytes_eq, Option, Some, None, Result, Ok, Err, if◌then◌else◌}
+use Rattle.std.specs.Prelude.{◌≡◌, ℕ, ◌-◌, ◌&&◌, ◌||◌, not, ◌==◌, List, [], ◌∷◌, map, length, codes, decimal, bytes_eq, Option, Some, None, Result, Ok, Err, if◌then◌else◌}
 use Rattle.qccd_base.specs.Names.{ion, trap}
 use Rattle.op_text.specs.OpText.{trap_text}
 use Rattle.qccd_base.specs.declared.names.Ion.{Ion}
 use Rattle.qccd_base.specs.declared.names.Mode.{Mode}
 use Rattle.qccd_base.specs.declared.names.Mode.TheVariants.{IonSwap, GateSwap}
 use Rattle.op_table.specs.declared.kinds.OpKind.{OpKind}
-use Rattle.op_table.specs.declared.kinds.OpKind.TheVariants.{Split, Move, Enter, Leave, Merge, Rot, GSwap, Item, Fence}
 use Rattle.op_text.specs.declared.kind.AsmKind.{AsmKind}
-use Rattle.op_text.specs.declared.kind.AsmKind.TheVariants.{Header, Word, Number, Count, NotBuilt, TooMany}
+use Rattle.op_text.specs.declared.kind.AsmKind.TheVariants.{Header, Word, Number, NotBuilt, TooMany}
 use Rattle.op_text.specs.Steps.{◌>>=◌, Check, judged}
 use Rattle.op_text.specs.Slots.{Slot, are_digits, number_in, is_outside, greatest, number_slot, fixed_slot, size_slot, next_slot, next_trap_slot}
-use Rattle.op_text.specs.Shapes.{Reading, Shape, first_word, read_one, one, ◌▸◌, whole, read_line}
-use Rattle.op_text.specs.Operations.{read_op, op_words, read_row, op_rows}
-use Rattle.transport_asm.specs.Lines.{Unread, Refusal, Steps, all_of, line_at, numbered, ended, lines_text, numbered_lines, Block, line_block, ◌▹◌, read_all}
+use Rattle.op_text.specs.Shapes.{read_one, one, ◌▸◌, read_line}
+use Rattle.op_text.specs.Operations.{read_op, op_words}
+use Rattle.transport_asm.specs.Lines.{Unread, Refusal, Steps, line_at, numbered, lines_text, numbered_lines, Block, line_block, ◌▹◌, read_all}
 
 -- what a program text spells
 pub record RawData : Type 0 where

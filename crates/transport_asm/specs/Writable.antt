@@ -1,13 +1,18 @@
 -- What has a text: an operation each of whose numbers is within the limit of its word, and a program of such operations.
-use Rattle.std.specs.Prelude.{◌≡◌, ℕ, ◌≤◌, List, length, None, IfSome}
+use Rattle.std.specs.Prelude.{◌≤◌, List, length, Option, Some, None}
 use Rattle.std.specs.List.{AllByRecursion}
 use Rattle.qccd_base.specs.declared.names.Ion.{Ion}
 use Rattle.op_table.specs.Op.{IsOp, KeepsItemRule}
-use Rattle.op_table.specs.Run.{item_in}
+use Rattle.qccd_circuit.specs.declared.kinds.Cond.{Cond}
 use Rattle.op_table.specs.declared.kinds.OpKind.{OpKind}
 use Rattle.op_table.specs.declared.kinds.OpKind.TheVariants.{Split, Move, Enter, Leave, Merge, Rot, GSwap, Item, Fence}
-use Rattle.op_text.specs.Slots.{greatest}
+use Rattle.op_text.specs.Slots.{greatest, greatest_value}
 use Rattle.transport_asm.specs.Texts.{RawData}
+
+-- the number of a condition's bits, and its value, are within the limits of their words
+abbrev pub KeepsCondLimits : Option Cond → Type 0
+KeepsCondLimits None = Unit {0}
+KeepsCondLimits (Some c) = (c.count ≤ 65535) × (c.value ≤ greatest_value)
 
 -- each number is within the limit of its word
 abbrev pub KeepsLimits : OpKind → Type 0
@@ -22,14 +27,14 @@ KeepsLimits (Item number t item at) =
     (number ≤ greatest) × (t.0 ≤ 255) × AllByRecursion (λ q. q.0 ≤ 65535) item.qubits
     × AllByRecursion (λ b. b.0 ≤ 65535) item.bits
     × AllByRecursion (λ p. p ≤ 255) at
+    × KeepsCondLimits item.cond
 KeepsLimits (Fence number item traps) =
     (number ≤ greatest) × AllByRecursion (λ t. t.0 ≤ 255) traps × AllByRecursion (λ q. q.0 ≤ 65535) item.qubits
 
--- an operation that has a text: it keeps to what each operation does, its item fits and is not conditional
+-- an operation that has a text: it keeps to what each operation does, and its item fits
 pub record IsWritable (op : OpKind) : Type 0 where
   pub is_op : IsOp op
   pub fits : KeepsItemRule op
-  pub unconditional : IfSome (item_in op) (λ e. e.1.cond ≡ None)
   pub limits : KeepsLimits op
 
 -- a chain that has a line

@@ -93,7 +93,7 @@ fn made(alloc: Global, head: HeadWords<'_>, tail: TailWords) -> Result<OpKind, N
     let qubits = qubit_list(alloc, head.first, tail.second)?;
     let bits = bit_list(alloc, tail.bit)?;
     let at = position_list(alloc, head.first, tail.second)?;
-    let item = Item::of(kind, name, angles, qubits, bits, None);
+    let item = Item::of(kind, name, angles, qubits, bits, tail.cond);
     Ok(OpKind::Item {
         number: head.number,
         trap: head.trap,

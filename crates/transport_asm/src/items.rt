@@ -2,16 +2,18 @@
 
 ghost use Rattle.std.specs.Prelude.{◌≡◌, ◌||◌, bytes_eq, codes, option_copied};
 ghost use Rattle.transport_asm.specs.Cursor.{words_left, Gives};
-ghost use Rattle.transport_asm.specs.Parts.{head_of, tail_of};
+ghost use Rattle.transport_asm.specs.Parts.{as_list, head_of, tail_of};
 ghost use Rattle.op_text.specs.Shapes.{read_one};
-ghost use Rattle.op_text.specs.Slots.{number_slot, bit_slot, greatest};
-ghost use Rattle.op_text.specs.Operations.{is_if, ends_item, second_at, measured_at, tail_at, item_shape, item_at, item_op, is_right, finished};
+ghost use Rattle.op_text.specs.Slots.{number_slot, greatest};
+ghost use Rattle.op_text.specs.Operations.{is_last, ends_item, second_at, measured_at, tail_at, item_shape, item_at, item_op, is_right, finished};
 
+use crate::conditions::{bit_at, condition_at};
 use crate::gates::{GateWord, gate_at, operand_at};
 use crate::shapes::trap_at;
-use crate::words::{cut, is, is_end, lettered, number, word};
+use crate::words::{cut, is, is_end, number, word};
 use op_text::AsmKind;
 use qccd_base::{Bit, Qubit, TrapId};
+use qccd_circuit::Cond;
 
 /// What an item's line states up to its first qubit.
 #[derive(Clone, Copy)]
@@ -22,11 +24,12 @@ pub struct HeadWords<'a> {
     pub first: (Qubit, u8),
 }
 
-/// What it states behind that: a second qubit, or a bit.
+/// What it states behind that: a second qubit, or a bit, and a condition.
 #[derive(Clone, Copy)]
 pub struct TailWords {
     pub second: Option<(Qubit, u8)>,
     pub bit: Option<Bit>,
+    pub cond: Option<Cond>,
 }
 
 /// The number that the next word writes, and what is left behind it.
@@ -36,14 +39,6 @@ pub fn number_at(words: Option<&[u8]>) -> Result<(u32, Option<&[u8]>), AsmKind>
     let (word, rest) = word(words)?;
     let n = number(word, 4294967295)?;
     Ok((n as u32, rest))
-}
-
-fn bit_at(words: Option<&[u8]>) -> Result<(Bit, Option<&[u8]>), AsmKind>
-    ensures { Gives (λ x. (x.0, words_left (option_copied x.1))) result (read_one bit_slot (words_left (option_copied words.entry))) }
-{
-    let (word, rest) = word(words)?;
-    let number = lettered(word, b'b', 65535)?;
-    Ok((Bit(number as u16), rest))
 }
 
 fn head_at(words: Option<&[u8]>) -> Result<(HeadWords<'_>, Option<&[u8]>), AsmKind>
@@ -64,57 +59,44 @@ fn head_at(words: Option<&[u8]>) -> Result<(HeadWords<'_>, Option<&[u8]>), AsmKi
     ))
 }
 
-// Whether the next word begins a condition.
-fn is_if(words: Option<&[u8]>) -> bool
-    ensures { result ≡ is_if (words_left (option_copied words.entry)) }
+// The end of an item: a condition, where one follows.
+fn ended(
+    second: Option<(Qubit, u8)>,
+    bit: Option<Bit>,
+    words: Option<&[u8]>,
+) -> Result<(TailWords, Option<&[u8]>), AsmKind>
+    ensures { Gives (λ x. (tail_of x.0, words_left (option_copied x.1))) result (ends_item (as_list second) (as_list bit) (words_left (option_copied words.entry))) }
+{
+    let (cond, rest) = condition_at(words)?;
+    Ok((TailWords { second, bit, cond }, rest))
+}
+
+// Whether no second qubit may follow: at the end of the line, and at a condition.
+fn is_last(words: Option<&[u8]>) -> bool
+    ensures { result ≡ is_last (words_left (option_copied words.entry)) }
 {
     match words {
-        None => false,
+        None => true,
         Some(line) => is(cut(line).0, b"if"),
     }
 }
 
-// The end of an item, where no condition follows.
-fn ended(tail: TailWords, words: Option<&[u8]>) -> Result<(TailWords, Option<&[u8]>), AsmKind>
-    ensures { Gives (λ x. (tail_of x.0, words_left (option_copied x.1))) result (ends_item (tail_of tail) (words_left (option_copied words.entry))) }
-{
-    if is_if(words) {
-        return Err(AsmKind::NotBuilt);
-    }
-    Ok((tail, words))
-}
-
-// A second qubit, or the end.
+// A second qubit, or none, and then the end.
 fn second_at(words: Option<&[u8]>) -> Result<(TailWords, Option<&[u8]>), AsmKind>
     ensures { Gives (λ x. (tail_of x.0, words_left (option_copied x.1))) result (second_at (words_left (option_copied words.entry))) }
 {
-    let no_more = TailWords {
-        second: None,
-        bit: None,
-    };
-    if is_end(words) {
-        return Ok((no_more, words));
-    }
-    if is_if(words) {
-        return Err(AsmKind::NotBuilt);
+    if is_last(words) {
+        return ended(None, None, words);
     }
     let (second, rest) = operand_at(words)?;
-    let tail = TailWords {
-        second: Some(second),
-        bit: None,
-    };
-    ended(tail, rest)
+    ended(Some(second), None, rest)
 }
 
 fn measured_at(words: Option<&[u8]>) -> Result<(TailWords, Option<&[u8]>), AsmKind>
     ensures { Gives (λ x. (tail_of x.0, words_left (option_copied x.1))) result (measured_at (words_left (option_copied words.entry))) }
 {
     let (bit, rest) = bit_at(words)?;
-    let tail = TailWords {
-        second: None,
-        bit: Some(bit),
-    };
-    ended(tail, rest)
+    ended(None, Some(bit), rest)
 }
 
 // What the name asks for behind the first qubit.
@@ -128,11 +110,7 @@ fn tail_at<'a>(
         return measured_at(words);
     }
     if is(name, b"reset") {
-        let no_more = TailWords {
-            second: None,
-            bit: None,
-        };
-        return ended(no_more, words);
+        return ended(None, None, words);
     }
     second_at(words)
 }

@@ -2,6 +2,7 @@
 #![tactic(auto)]
 
 mod chains;
+mod conditions;
 mod faults;
 mod fences;
 mod gates;

@@ -4,11 +4,11 @@ ghost use Rattle.std.specs.Prelude.{◌≡◌, [], ◌∷◌, codes, None, Some,
 ghost use Rattle.qccd_base.specs.Names.{qubit, trap, segment, junction};
 ghost use Rattle.qccd_base.specs.declared.names.End.TheVariants.{Left, Right};
 ghost use Rattle.qccd_base.specs.declared.names.Mode.TheVariants.{GateSwap, IonSwap};
-ghost use Rattle.qccd_circuit.specs.Example.{barrier_over, cx_on, h_on, measure_into, reset_of};
+ghost use Rattle.qccd_circuit.specs.Example.{barrier_over, cx_on, h_on, h_under, measure_into, reset_of};
 ghost use Rattle.op_table.specs.declared.kinds.OpKind.TheVariants.{Split, Move, Enter, Leave, Merge, Rot, GSwap, Item, Fence};
 ghost use Rattle.op_text.specs.declared.kind.AsmKind.TheVariants.{Header, Word, Number, Count, NotBuilt, TooMany};
 ghost use Rattle.transport_asm.specs.Lines.{words_of, refused};
-ghost use Rattle.op_text.specs.Example.{turned};
+ghost use Rattle.op_text.specs.Example.{turned, under};
 ghost use Rattle.op_text.specs.Operations.{read_op};
 ghost use Rattle.transport_asm.specs.Texts.{Spells, IsRefusedAt, raw_text};
 ghost use Rattle.transport_asm.specs.Example.{compiled, compiled_raw, cut, counted, of_version, one_ion, with_head, without_end, following};
@@ -91,9 +91,6 @@ pub fn refused_items()
     ensures bit { read_op (words_of (codes "item 0 h T0 q0@0 b70000")) ≡ Err Word }
     ensures no_bit { read_op (words_of (codes "item 0 measure T0 q0@0")) ≡ Err Word }
     ensures bit_number { read_op (words_of (codes "item 0 measure T0 q0@0 b65536")) ≡ Err Number }
-    ensures condition { read_op (words_of (codes "item 0 h T0 q0@0 if b0 1 1")) ≡ Err NotBuilt }
-    ensures condition_behind { read_op (words_of (codes "item 0 cx T0 q0@0 q1@1 if b0 1 1")) ≡ Err NotBuilt }
-    ensures condition_measure { read_op (words_of (codes "item 0 measure T0 q0@0 b0 if")) ≡ Err NotBuilt }
     ensures early { read_op (words_of (codes "item 0 measure T0 q0@0 if")) ≡ Err Word }
     ensures twice { read_op (words_of (codes "item 0 cx T0 q0@0 q0@1")) ≡ Err Word }
     ensures word_first { read_op (words_of (codes "item 0 cx T0 q0@0 q0@1 q01@0")) ≡ Err Word }
@@ -107,6 +104,41 @@ pub fn refused_items()
     ensures unclosed { read_op (words_of (codes "item 0 rx(1 T0 q0@0")) ≡ Err Word }
     ensures barrier { read_op (words_of (codes "item 0 barrier T0 q0@0")) ≡ Err Word }
     ensures reset_angle { read_op (words_of (codes "item 0 reset(1) T0 q0@0")) ≡ Err Word }
+{}
+
+/// Conditions that are read, behind each kind of item. The last ones have as many bits as there may be, and the
+/// greatest value.
+pub fn read_conditions()
+    ensures gate { read_op (words_of (codes "item 1 h T1 q1@0 if b0 2 1")) ≡ Ok (Item 1 (trap 1) (h_under 1 0 2) (0 ∷ [])) }
+    ensures two { read_op (words_of (codes "item 2 cx T0 q0@0 q1@1 if b3 4 9")) ≡ Ok (Item 2 (trap 0) (under (cx_on 0 1) 3 4 9) (0 ∷ 1 ∷ [])) }
+    ensures measure { read_op (words_of (codes "item 7 measure T0 q3@2 b5 if b5 1 0")) ≡ Ok (Item 7 (trap 0) (under (measure_into 3 5) 5 1 0) (2 ∷ [])) }
+    ensures reset { read_op (words_of (codes "item 4 reset T2 q1@0 if b65535 1 1")) ≡ Ok (Item 4 (trap 2) (under (reset_of 1) 65535 1 1) (0 ∷ [])) }
+    ensures most { read_op (words_of (codes "item 0 h T0 q0@0 if b1 65535 0")) ≡ Ok (Item 0 (trap 0) (under (h_on 0) 1 65535 0) (0 ∷ [])) }
+    ensures greatest { read_op (words_of (codes "item 0 h T0 q0@0 if b0 1 340282366920938463463374607431768211455"))
+        ≡ Ok (Item 0 (trap 0) (under (h_on 0) 0 1 340282366920938463463374607431768211455) (0 ∷ [])) }
+{}
+
+/// Words of conditions that are refused. How many bits there are is judged at its word, in front of the value.
+pub fn refused_conditions()
+    ensures no_words { read_op (words_of (codes "item 0 measure T0 q0@0 b0 if")) ≡ Err Word }
+    ensures no_bit { read_op (words_of (codes "item 0 h T0 q0@0 if q0 1 1")) ≡ Err Word }
+    ensures bit { read_op (words_of (codes "item 0 h T0 q0@0 if b65536 1 1")) ≡ Err Number }
+    ensures no_count { read_op (words_of (codes "item 0 h T0 q0@0 if b0")) ≡ Err Word }
+    ensures none { read_op (words_of (codes "item 0 h T0 q0@0 if b0 0 1")) ≡ Err Word }
+    ensures zero { read_op (words_of (codes "item 0 h T0 q0@0 if b0 01 1")) ≡ Err Number }
+    ensures many { read_op (words_of (codes "item 0 h T0 q0@0 if b0 65536 1")) ≡ Err Word }
+    ensures past { read_op (words_of (codes "item 0 h T0 q0@0 if b2 65535 1")) ≡ Err Word }
+    ensures most { read_op (words_of (codes "item 0 h T0 q0@0 if b0 4294967295 1")) ≡ Err Word }
+    ensures wide { read_op (words_of (codes "item 0 h T0 q0@0 if b0 4294967296 1")) ≡ Err Number }
+    ensures no_value { read_op (words_of (codes "item 0 h T0 q0@0 if b0 1")) ≡ Err Word }
+    ensures value_form { read_op (words_of (codes "item 0 h T0 q0@0 if b0 1 -1")) ≡ Err Word }
+    ensures value_zero { read_op (words_of (codes "item 0 h T0 q0@0 if b0 1 00")) ≡ Err Number }
+    ensures value { read_op (words_of (codes "item 0 h T0 q0@0 if b0 1 340282366920938463463374607431768211456")) ≡ Err Number }
+    ensures count_first { read_op (words_of (codes "item 0 h T0 q0@0 if b0 0 01")) ≡ Err Word }
+    ensures further { read_op (words_of (codes "item 0 h T0 q0@0 if b0 1 1 if")) ≡ Err Word }
+    ensures rule_last { read_op (words_of (codes "item 0 cx T0 q0@0 q0@1 if b0 1 01")) ≡ Err Number }
+    ensures barrier { read_op (words_of (codes "item 0 barrier T0 q0@0 if b0 1 1")) ≡ Err Word }
+    ensures fence { read_op (words_of (codes "fence 0 T0 q0 if b0 1 1")) ≡ Err Word }
 {}
 
 /// And of fences.

@@ -1,4 +1,3 @@
-use Rattle.std.proofs.Common.{◌≡◌, ◌++◌, ◌∷◌, []}
 use Rattle.std.proofs.lemmas.Result.{err_from_is_err_and}
 use Rattle.transport_asm.specs.LineCursor.{unread}
 use Rattle.transport_asm.specs.Lines.{numbered}

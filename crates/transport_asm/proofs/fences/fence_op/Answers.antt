@@ -1,4 +1,4 @@
-use Rattle.std.proofs.Common.{List, Result, Ok, Err, option_copied, sym, ◌∙◌, subst}
+use Rattle.std.proofs.Common.{Result, option_copied, sym, ◌∙◌, subst}
 use Rattle.std.specs.Prelude.{option_map}
 use Rattle.std.proofs.lemmas.Result.{err_from_is_err_and}
 use Rattle.op_table.specs.declared.kinds.OpKind.{OpKind}

@@ -1,4 +1,4 @@
-use Rattle.std.proofs.Common.{List, Option, sym, ap, ◌∙◌}
+use Rattle.std.proofs.Common.{sym, ap, ◌∙◌}
 use Rattle.std.specs.Prelude.{option_map}
 use Rattle.op_table.specs.Op.{are_ascending}
 use Rattle.op_table.specs.declared.kinds.OpKind.TheVariants.{Fence}

@@ -1,4 +1,4 @@
-use Rattle.std.proofs.Common.{◌≡◌, Bool, true, false, not, [], ◌∷◌, ◌++◌, sym, ◌∙◌, refl}
+use Rattle.std.proofs.Common.{◌≡◌, Bool, true, false, not, refl}
 use Rattle.transport_asm.proofs.Marked.{dropped, kept_so, twice, once}
 use Rattle.transport_asm.proofs.fences.noted.Goals as goal
 

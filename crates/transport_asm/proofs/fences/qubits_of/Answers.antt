@@ -1,9 +1,9 @@
-use Rattle.std.proofs.Common.{◌≡◌, ℕ, Bool, List, Some, None, Ok, option_copied, sym, ap, ◌∙◌, subst, arith, refl}
+use Rattle.std.proofs.Common.{Bool, Some, None, Ok, option_copied, sym, ap, ◌∙◌}
 use Rattle.std.specs.Prelude.{if◌then◌else◌}
 use Rattle.std.proofs.lemmas.Result.{err_from_is_err_and}
 use Rattle.op_text.specs.Operations.{qubits_at}
 use Rattle.transport_asm.specs.Cursor.{words_left}
-use Rattle.transport_asm.proofs.Marked.{SoFar, SoFar-begins, SoFar-next, SoFar-refused, left_some, finish}
+use Rattle.transport_asm.proofs.Marked.{SoFar-begins, SoFar-next, SoFar-refused, left_some, finish}
 use Rattle.transport_asm.proofs.fences.qubits_of.Goals as goal
 
 pub loop-left-init : goal.loop-left-init

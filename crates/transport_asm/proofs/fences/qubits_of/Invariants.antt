@@ -1,7 +1,7 @@
-use Rattle.std.proofs.Common.{◌≡◌, ℕ, option_copied}
+use Rattle.std.proofs.Common.{option_copied}
 use Rattle.op_text.specs.Operations.{qubits_at}
 use Rattle.transport_asm.specs.Cursor.{words_left, size_left}
-use Rattle.transport_asm.proofs.Marked.{with_front, SoFar}
+use Rattle.transport_asm.proofs.Marked.{SoFar}
 use Rattle.transport_asm.proofs.fences.qubits_of.Given as goal
 
 abbrev pub invariant-loop-left : goal.invariant-loop-left

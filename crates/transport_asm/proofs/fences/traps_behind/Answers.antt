@@ -1,8 +1,7 @@
 use Rattle.std.proofs.Common.{option_copied, sym, ◌∙◌}
-use Rattle.std.proofs.lemmas.Result.{err_from_is_err_and}
 use Rattle.transport_asm.specs.Cursor.{words_left}
 use Rattle.transport_asm.specs.Marks.{traps_behind}
-use Rattle.transport_asm.proofs.FenceReading.{trap_more, trap_wrong, traps_end}
+use Rattle.transport_asm.proofs.FenceReading.{trap_more}
 use Rattle.transport_asm.proofs.fences.traps_behind.Goals as goal
 
 pub loop-left-preserved : goal.loop-left-preserved

@@ -1,4 +1,4 @@
-use Rattle.std.proofs.Common.{rules, ◌≡◌, ℕ, zero, suc, ◌+◌, ◌-◌, ◌<◌, Bool, true, false, cond, not, ◌&&◌, ◌||◌, ◌==◌, List, [], ◌∷◌, ◌++◌, length, take, drop, Option, Some, None, Ok, Err, refl, sym, ap, ◌∙◌, subst, arith}
+use Rattle.std.proofs.Common.{◌+◌, sym, ◌∙◌}
 use Rattle.transport_asm.proofs.Cut.{rest_of}
 use Rattle.transport_asm.proofs.GateReading.{found, missed}
 use Rattle.transport_asm.proofs.gates.split_name.Goals as goal

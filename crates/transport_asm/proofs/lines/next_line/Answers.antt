@@ -1,5 +1,4 @@
-use Rattle.std.proofs.Common.{rules, ◌≡◌, ℕ, List, ◌∷◌, ◌+◌, ◌==◌, take, drop, sym, ap, ◌∙◌, refl}
-use Rattle.transport_asm.specs.LineCursor.{parts_of, next_of}
+use Rattle.std.proofs.Common.{◌+◌, ◌==◌, take, drop, sym, ap, ◌∙◌}
 use Rattle.transport_asm.specs.Lines.{next_line}
 use Rattle.transport_asm.proofs.Cut.{split_found, split_missed, rest_of}
 use Rattle.transport_asm.proofs.Parts.{next_behind}

@@ -1,4 +1,4 @@
-use Rattle.std.proofs.Common.{List, Result, option_copied, sym, ◌∙◌, subst}
+use Rattle.std.proofs.Common.{Result, option_copied, sym, ◌∙◌, subst}
 use Rattle.op_table.specs.declared.kinds.OpKind.{OpKind}
 use Rattle.op_text.specs.declared.kind.AsmKind.{AsmKind}
 use Rattle.transport_asm.specs.Cursor.{words_left, GivesOp}

@@ -1,5 +1,4 @@
 use Rattle.std.proofs.Common.{ℕ, List, ◌++◌, codes, decimal, Ok, Err}
-use Rattle.qccd_base.specs.declared.names.Ion.{Ion}
 use Rattle.qccd_io.proofs.Sent.{sent_next, sent_last}
 use Rattle.transport_asm.specs.ProgramText.{ions_text}
 use Rattle.op_text.proofs.Sending.{sent_grown}

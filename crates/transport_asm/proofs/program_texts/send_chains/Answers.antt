@@ -1,4 +1,4 @@
-use Rattle.std.proofs.Common.{◌≡◌, ℕ, ◌<◌, ◌≤◌, List, get_or, length, sym, ap, ◌∙◌, subst, arith, [], Ok, Err}
+use Rattle.std.proofs.Common.{◌≡◌, ◌≤◌, List, get_or, length, sym, ap, subst, arith, [], Ok, Err}
 use Rattle.std.proofs.lemmas.List.{take_all}
 use Rattle.std.proofs.lemmas.Option.{get_or_from_slice_get, slice_get_within}
 use Rattle.qccd_base.specs.declared.names.Ion.{Ion}

@@ -1,4 +1,4 @@
-use Rattle.std.proofs.Common.{ℕ, List, ◌++◌, codes, decimal, Ok}
+use Rattle.std.proofs.Common.{ℕ, List, ◌++◌, codes, decimal}
 use Rattle.qccd_io.proofs.Sent.{sent_next, sent_last}
 use Rattle.op_text.proofs.Sending.{sent_grown}
 use Rattle.transport_asm.proofs.program_texts.send_counts.Goals as goal

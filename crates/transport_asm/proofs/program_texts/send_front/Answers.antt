@@ -1,4 +1,4 @@
-use Rattle.std.proofs.Common.{ℕ, List, ◌++◌, length, Ok, Err, sym, ◌∙◌}
+use Rattle.std.proofs.Common.{ℕ, List, ◌++◌, length, Ok, Err, sym}
 use Rattle.qccd_base.specs.declared.names.Ion.{Ion}
 use Rattle.qccd_io.proofs.Sent.{sent_next, sent_last}
 use Rattle.qccd_program.specs.Program.{ProgramData}

@@ -1,4 +1,4 @@
-use Rattle.std.proofs.Common.{ℕ, Ok, Err, subst}
+use Rattle.std.proofs.Common.{Ok, Err, subst}
 use Rattle.qccd_io.specs.declared.failed.Failed.{Failed}
 use Rattle.qccd_io.specs.Sends.{Sends}
 use Rattle.op_table.specs.declared.kinds.OpKind.{OpKind}

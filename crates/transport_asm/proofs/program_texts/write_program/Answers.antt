@@ -1,7 +1,7 @@
 use Rattle.std.proofs.Common.{ℕ, List, subst}
 use Rattle.qccd_io.specs.Sends.{Sends}
 use Rattle.qccd_io.proofs.Sent.{sent_next, sent_last}
-use Rattle.transport_asm.specs.ProgramText.{program_text, front_text, back_text}
+use Rattle.transport_asm.specs.ProgramText.{front_text, back_text}
 use Rattle.transport_asm.proofs.ProgramWriting.{text_is}
 use Rattle.op_text.proofs.Sending.{sent_grown}
 use Rattle.transport_asm.proofs.program_texts.write_program.Goals as goal

@@ -1,4 +1,3 @@
-use Rattle.std.proofs.Common.{sym, ◌∙◌}
 use Rattle.std.proofs.lemmas.Result.{err_from_is_err_and}
 use Rattle.transport_asm.specs.LineCursor.{unread, raw_data}
 use Rattle.transport_asm.proofs.LineReading.{read_fails, read_goes_on, read_done}

@@ -1,4 +1,4 @@
-use Rattle.std.proofs.Common.{◌≡◌, ℕ, List, ◌∷◌, ◌+◌, ◌==◌, take, sym, ap, ◌∙◌}
+use Rattle.std.proofs.Common.{ℕ, List, ◌∷◌, ◌+◌, ◌==◌, take, sym, ap, ◌∙◌}
 use Rattle.std.specs.List.{slice_split}
 use Rattle.transport_asm.proofs.Cut.{split_found, split_missed, rest_of}
 use Rattle.transport_asm.proofs.words.cut_at.Goals as goal

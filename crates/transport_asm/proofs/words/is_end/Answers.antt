@@ -1,4 +1,4 @@
-use Rattle.std.proofs.Common.{◌≡◌, ℕ, ◌==◌, refl, sym}
+use Rattle.std.proofs.Common.{◌==◌, refl}
 use Rattle.transport_asm.proofs.Cut.{has_word}
 use Rattle.transport_asm.proofs.words.is_end.Goals as goal
 

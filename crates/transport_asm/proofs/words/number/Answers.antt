@@ -1,6 +1,6 @@
-use Rattle.std.proofs.Common.{rules, ◌≡◌, ℕ, List, Ok, Err, sym, ◌∙◌, ap, arith}
+use Rattle.std.proofs.Common.{ℕ, List, sym, ◌∙◌, ap, arith}
 use Rattle.op_text.specs.Slots.{number_slot}
-use Rattle.transport_asm.proofs.Numbers.{number_again, refused_digits, refused_word}
+use Rattle.transport_asm.proofs.Numbers.{number_again, refused_digits}
 use Rattle.transport_asm.proofs.words.number.Goals as goal
 
 pub returns-in-Some : goal.returns-in-Some
