@@ -28,16 +28,44 @@ _qccd_machines() {
     esac
 }
 
+# What can stand as the last of a command's options: an option that it takes and that was not given, or the value of one.
+_qccd_options() {
+    local last=${*: -1} before=${*: -2:1} options word
+    case $1 in
+        run) options=' --workers --swap ' ;;
+        compile) options=' --swap ' ;;
+        *) options=' --workers ' ;;
+    esac
+    shift
+    if [ $(($# % 2)) = 0 ]; then
+        case $options:$before in
+            *' --workers '*:--workers) compgen -W "$(echo {1..16})" -- "$last" ;;
+            *' --swap '*:--swap) compgen -W 'ion gate' -- "$last" ;;
+        esac
+        return
+    fi
+    for word in "${@:1:$#-1}"; do
+        options=${options/ $word / }
+    done
+    compgen -W "$options" -- "$last"
+}
+
 # What can stand as the last of these words, the program's own name being the first.
 _qccd_choices() {
-    local last=${*: -1}
+    local last=${*: -1} fixed=()
+    case ${2-} in
+        run | compile | exec) fixed=("${@:5}") ;;
+        rehearse) fixed=("${@:7}") ;;
+    esac
+    if [ ${#fixed[@]} -gt 0 ]; then
+        _qccd_options "$2" "${fixed[@]}"
+        return
+    fi
     case $(($# - 1)):${2-} in
         1:*) compgen -W 'run compile exec check rehearse' -- "$last" ;;
         2:run | 2:compile | 2:exec | 2:check | 5:rehearse) _qccd_machines "$last" ;;
         3:run | 3:compile | 3:check) _qccd_files "$last" qasm ;;
         3:exec | 4:check) _qccd_files "$last" qccd ;;
-        4:run | 4:compile) compgen -W '--swap' -- "$last" ;;
-        5:run | 5:compile) [ "$5" != --swap ] || compgen -W 'ion gate' -- "$last" ;;
     esac
 }
 
