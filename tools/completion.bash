@@ -62,10 +62,10 @@ _qccd_choices() {
         return
     fi
     case $(($# - 1)):${2-} in
-        1:*) compgen -W 'run compile exec check rehearse' -- "$last" ;;
-        2:run | 2:compile | 2:exec | 2:check | 5:rehearse) _qccd_machines "$last" ;;
+        1:*) compgen -W 'run compile exec check rehearse tidy' -- "$last" ;;
+        2:run | 2:compile | 2:exec | 2:check | 2:tidy | 5:rehearse) _qccd_machines "$last" ;;
         3:run | 3:compile | 3:check) _qccd_files "$last" qasm ;;
-        3:exec | 4:check) _qccd_files "$last" qccd ;;
+        3:exec | 3:tidy | 4:check) _qccd_files "$last" qccd ;;
     esac
 }
 

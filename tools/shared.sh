@@ -21,24 +21,35 @@ is_number() {
     [[ $word =~ ^(0|[1-9][0-9]{0,9})$ ]] && ((word >= low && word <= high))
 }
 
-# Whether these words end a command that makes a program: none, or how ions change places.
-name_swap() {
-    case $#:$* in
-        0: | 2:'--swap ion' | 2:'--swap gate') ;;
-        *) return 1 ;;
-    esac
+# Whether the words behind the first are options with their values, in any order: of those in the first word each once
+# at most.
+are_options() {
+    local left=" $1 "
+    shift
+    while (($# > 0)); do
+        [[ $left == *" $1 "* ]] || return 1
+        case $1:${2-} in
+            --swap:ion | --swap:gate) ;;
+            --workers:*) is_number "${2-}" 1 16 || return 1 ;;
+            *) return 1 ;;
+        esac
+        left=${left/" $1 "/ }
+        shift 2
+    done
 }
 
-# Whether the words are one of the five commands. Other words have no reading, whatever the program's age.
+# Whether the words are one of the six commands. Other words have no reading, whatever the program's age.
 are_command() {
     case ${1-} in
-        run | compile) (($# >= 3)) && names_machine "$2" && name_swap "${@:4}" ;;
-        exec) (($# == 3)) && names_machine "$2" ;;
+        run) (($# >= 3)) && names_machine "$2" && are_options '--workers --swap' "${@:4}" ;;
+        compile) (($# >= 3)) && names_machine "$2" && are_options --swap "${@:4}" ;;
+        exec) (($# >= 3)) && names_machine "$2" && are_options --workers "${@:4}" ;;
         check) (($# == 4)) && names_machine "$2" ;;
         rehearse)
-            (($# == 5)) && is_number "$2" 0 2147483647 && is_number "$3" 1 256 && is_number "$4" 0 65536 &&
-                names_machine "$5"
+            (($# >= 5)) && is_number "$2" 0 2147483647 && is_number "$3" 1 256 && is_number "$4" 0 65536 &&
+                names_machine "$5" && are_options --workers "${@:6}"
             ;;
+        tidy) (($# == 3)) && names_machine "$2" ;;
         *) return 1 ;;
     esac
 }
