@@ -16,6 +16,7 @@ usage = concat (
     ∷ codes "       qccd exec MACHINE PROGRAM [--workers N]\n"
     ∷ codes "       qccd check MACHINE CIRCUIT PROGRAM\n"
     ∷ codes "       qccd rehearse NUMBER QUBITS ITEMS MACHINE [--workers N]\n"
+    ∷ codes "       qccd tidy MACHINE PROGRAM\n"
     ∷ [])
 
 abbrev pub message_of : Cause → List ℕ

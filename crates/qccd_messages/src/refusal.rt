@@ -20,6 +20,7 @@ usage: qccd run MACHINE CIRCUIT [--workers N] [--swap ion|gate]
        qccd exec MACHINE PROGRAM [--workers N]
        qccd check MACHINE CIRCUIT PROGRAM
        qccd rehearse NUMBER QUBITS ITEMS MACHINE [--workers N]
+       qccd tidy MACHINE PROGRAM
 ";
 
 /// Why a command is refused.

@@ -20,7 +20,7 @@ use Rattle.meaning_check.specs.declared.verdict.Verdict.{Verdict}
 use Rattle.meaning_check.specs.declared.verdict.Verdict.TheVariants.{Sizes, Differs, Missing, Order, Same}
 use Rattle.meaning_check.proofs.Verdicts.{one_at_least}
 use Rattle.rehearsal.specs.Generated.{generated}
-use Rattle.qccd_words.specs.Words.{AskedMachine, OfPreset, OfFile, Asked, AskedRun, AskedCompile, AskedExec, AskedCheck, AskedRehearse, request_of}
+use Rattle.qccd_words.specs.Words.{AskedMachine, OfPreset, OfFile, Asked, AskedRun, AskedCompile, AskedExec, AskedCheck, AskedRehearse, AskedTidy, request_of}
 use Rattle.qccd_messages.specs.Cause.{Cause, Words, Read, TooLarge, Machine, Circuit, Shortage, TooLong, Asm, Load, NotSame, status_of}
 use Rattle.qccd_top.specs.declared.limits.TheConstants.{CIRCUIT_LIMIT, MACHINE_LIMIT, PROGRAM_LIMIT}
 use Rattle.qccd_top.specs.Stage.{Gives, Refuses, Stage, ◌>>=◌, Just}
@@ -160,6 +160,8 @@ answer-text held (AskedExec machine program workers) =
 answer-text held (AskedCheck machine circuit program) = answer-then _ _ (answer-checked_in held machine circuit program) (λ p there. answer-just _)
 answer-text held (AskedRehearse number qubits items machine workers) =
     answer-then _ _ (answer-then _ _ (answer-machine held machine) (λ m there. answer-compiled (generated number qubits items) m IonSwap)) (λ p there. answer-just _)
+answer-text held (AskedTidy machine program) =
+    answer-then _ _ (answer-then _ _ (answer-machine held machine) (λ m there. answer-program held m program)) (λ p there. answer-just _)
 
 -- some status is due
 pub some_due : (words : List (List ℕ)) (held : Holding) → (status : ℕ) × IsDue words held status

@@ -24,7 +24,7 @@ use Rattle.rehearsal.specs.Generated.{generated}
 use Rattle.rehearsal.proofs.Circuits.{generated_circuit}
 use Rattle.tracer.specs.Report.{report_text}
 use Rattle.tracer.specs.Summary.{summary_text}
-use Rattle.qccd_words.specs.Words.{AskedMachine, OfPreset, OfFile, Asked, AskedRun, AskedCompile, AskedExec, AskedCheck, AskedRehearse, request_of, HasCapacity}
+use Rattle.qccd_words.specs.Words.{AskedMachine, OfPreset, OfFile, Asked, AskedRun, AskedCompile, AskedExec, AskedCheck, AskedRehearse, AskedTidy, request_of, HasCapacity}
 use Rattle.qccd_words.proofs.Capacities.{request-limits}
 use Rattle.qccd_messages.specs.Cause.{Cause, Write, status_of}
 use Rattle.qccd_top.specs.Stage.{Gives, ◌>>=◌}
@@ -32,7 +32,7 @@ use Rattle.qccd_top.specs.Stages.{MachineIn, CircuitIn}
 use Rattle.qccd_top.specs.Means.{CompiledIn, LoadedIn, CheckedIn, TextOf, TextFor}
 use Rattle.qccd_top.specs.Call.{Call}
 use Rattle.qccd_top.specs.Done.{IsDone, IsCauseOf}
-use Rattle.qccd_top.specs.Headline.{AsksRun, AsksCompile, AsksExec, AsksCheck, AsksRehearsal, RunsWell, IsMeant, DoesCircuit, IsMeantProgram, IsLoaded, IsChecked, IsReported, IsCutReport, IsProgramWritten, IsExecuted, IsSameTold, IsRehearsalOf, IsSummarized}
+use Rattle.qccd_top.specs.Headline.{AsksRun, AsksCompile, AsksExec, AsksCheck, AsksRehearsal, AsksTidy, RunsWell, IsMeant, DoesCircuit, IsMeantProgram, IsLoaded, IsChecked, IsReported, IsCutReport, IsProgramWritten, IsExecuted, IsSameTold, IsRehearsalOf, IsSummarized, IsTidyWritten}
 use Rattle.qccd_top.proofs.Loaded.{loaded_means, runs_well}
 
 -- the operations for all items are few where those before each item are
@@ -182,6 +182,17 @@ same_told call asks done =
     record {
       program = p;
       is_checked = checked call.told asks.word asks.name asks.program_name p (request-limits call.words check asks.asked) given;
+      written = done.written ∙ ap (appended call.out.old) text;
+    }
+
+pub tidy_written : (call : Call) (asks : AsksTidy call.words) → IsDone call → IsTidyWritten call asks
+unfolding ◌>>=◌
+tidy_written call asks done =
+    let tidy = AskedTidy asks.word asks.name in
+    let (p, given, text) = meaning call tidy done.text asks.asked done.means in
+    record {
+      program = p;
+      is_loaded = loaded call.told asks.word asks.name p (request-limits call.words tidy asks.asked) given;
       written = done.written ∙ ap (appended call.out.old) text;
     }
 

@@ -2,7 +2,7 @@
 use Rattle.std.proofs.Common.{◌≡◌, ℕ, List, inl, inr, Option, None, arith}
 use Rattle.qccd_io.specs.Shelf.{Holding}
 use Rattle.qccd_base.specs.declared.names.Mode.{Mode}
-use Rattle.qccd_words.specs.Words.{AskedMachine, OfPreset, OfFile, Asked, AskedRun, AskedCompile, AskedExec, AskedCheck, AskedRehearse, request_of}
+use Rattle.qccd_words.specs.Words.{AskedMachine, OfPreset, OfFile, Asked, AskedRun, AskedCompile, AskedExec, AskedCheck, AskedRehearse, AskedTidy, request_of}
 use Rattle.qccd_machine.specs.Machine.{MachineData}
 use Rattle.qccd_messages.specs.Cause.{Cause, Words, status_of}
 use Rattle.qccd_top.specs.declared.limits.TheConstants.{CIRCUIT_LIMIT, MACHINE_LIMIT, PROGRAM_LIMIT}
@@ -57,6 +57,7 @@ takes-text told (AskedCompile machine circuit mode) = takes-then _ _ (takes-comp
 takes-text told (AskedExec machine program workers) = takes-then _ _ (takes-loaded told machine program) (λ p why. why)
 takes-text told (AskedCheck machine circuit program) = takes-then _ _ (takes-checked told machine circuit program) (λ p why. why)
 takes-text told (AskedRehearse number qubits items machine workers) = takes-then _ _ (takes-rehearsed told machine number qubits items) (λ p why. why)
+takes-text told (AskedTidy machine program) = takes-then _ _ (takes-loaded told machine program) (λ p why. why)
 
 no_reading : (told : Option Holding) (words : List (List ℕ)) → TextFor told words (Refuses Words) → request_of words ≡ None
 unfolding ◌>>=◌

@@ -10,7 +10,7 @@ use Rattle.qccd_top.specs.Call.{Call, Output, WriteFailed}
 use Rattle.qccd_top.specs.Done.{IsDone, IsCauseOf}
 use Rattle.qccd_top.specs.Promises.{Promises}
 use Rattle.qccd_top.proofs.Dues.{done_exact, refused_exact}
-use Rattle.qccd_top.proofs.Headline.{headline, cut, program_written, executed, same_told, rehearsed}
+use Rattle.qccd_top.proofs.Headline.{headline, cut, program_written, executed, same_told, rehearsed, tidy_written}
 use Rattle.qccd_top.proofs.Judged.{words_cause}
 
 -- each cause has a status other than 0
@@ -39,6 +39,7 @@ promised_done call err done quiet reads counted = record {
   executed = λ asks zero. executed call asks done;
   checked = λ asks zero. same_told call asks done;
   rehearsed = λ asks zero. rehearsed call asks done;
+  tidied = λ asks zero. tidy_written call asks done;
   done = λ zero. done;
   quiet = λ zero. quiet;
   refused = λ some. absurd (some refl);
@@ -59,6 +60,7 @@ promised_refused call err cause rests first message counted = record {
   executed = λ asks zero. absurd (some_status cause zero);
   checked = λ asks zero. absurd (some_status cause zero);
   rehearsed = λ asks zero. absurd (some_status cause zero);
+  tidied = λ asks zero. absurd (some_status cause zero);
   done = λ zero. absurd (some_status cause zero);
   quiet = λ zero. absurd (some_status cause zero);
   refused = λ some. record { cause = cause; is_status = refl; rests = rests; message = message };

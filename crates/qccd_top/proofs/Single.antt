@@ -19,7 +19,7 @@ use Rattle.transport_asm.proofs.Answered as program_texts
 use Rattle.loader.specs.Refusal.{load_refusal}
 use Rattle.meaning_check.specs.declared.verdict.Verdict.TheVariants.{Same}
 use Rattle.meaning_check.proofs.Verdicts.{one_at_most}
-use Rattle.qccd_words.specs.Words.{AskedMachine, OfPreset, OfFile, Asked, AskedRun, AskedCompile, AskedExec, AskedCheck, AskedRehearse}
+use Rattle.qccd_words.specs.Words.{AskedMachine, OfPreset, OfFile, Asked, AskedRun, AskedCompile, AskedExec, AskedCheck, AskedRehearse, AskedTidy}
 use Rattle.qccd_messages.specs.Cause.{Cause, Words, Read, TooLarge, Machine, Circuit, Shortage, TooLong, Asm, Load, NotSame}
 use Rattle.qccd_top.specs.declared.limits.TheConstants.{CIRCUIT_LIMIT, MACHINE_LIMIT, PROGRAM_LIMIT}
 use Rattle.qccd_top.specs.Stages.{WordsOf, FileIn, MachineOf, MachineIn, CircuitOf, CircuitIn, Compiled, RawOf, RawIn, LoadedOn, ProgramIn, SameAs}
@@ -229,6 +229,7 @@ single-text held (AskedCompile machine circuit mode) = single-then _ _ (single-c
 single-text held (AskedExec machine program workers) = single-then _ _ (single-loaded held machine program) (λ p. single-just _)
 single-text held (AskedCheck machine circuit program) = single-then _ _ (single-checked held machine circuit program) (λ p. single-just _)
 single-text held (AskedRehearse number qubits items machine workers) = single-then _ _ (single-rehearsed held machine number qubits items) (λ p. single-just _)
+single-text held (AskedTidy machine program) = single-then _ _ (single-loaded held machine program) (λ p. single-just _)
 
 -- so have words
 pub single-written : (held : Holding) (words : List (List ℕ)) → IsSingle (TextFor (Some held) words)

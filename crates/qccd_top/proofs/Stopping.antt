@@ -7,7 +7,7 @@ use Rattle.qccd_io.specs.Shelf.{Holding}
 use Rattle.qccd_circuit.specs.Circuit.{CircuitData}
 use Rattle.qccd_machine.specs.Machine.{MachineData}
 use Rattle.rehearsal.specs.Generated.{generated}
-use Rattle.qccd_words.specs.Words.{AskedMachine, OfFile, Asked, AskedRun, AskedCompile, AskedExec, AskedCheck, AskedRehearse, request_of}
+use Rattle.qccd_words.specs.Words.{AskedMachine, OfFile, Asked, AskedRun, AskedCompile, AskedExec, AskedCheck, AskedRehearse, AskedTidy, request_of}
 use Rattle.qccd_messages.specs.Cause.{Cause, status_of}
 use Rattle.qccd_top.specs.declared.limits.TheConstants.{CIRCUIT_LIMIT, MACHINE_LIMIT, PROGRAM_LIMIT}
 use Rattle.qccd_top.specs.Stage.{Gives, Refuses, ◌>>=◌}
@@ -28,6 +28,7 @@ no_machine held (AskedCompile machine circuit mode) cause why = inl (inl why)
 no_machine held (AskedExec machine program workers) cause why = inl (inl why)
 no_machine held (AskedCheck machine circuit program) cause why = inl (inl why)
 no_machine held (AskedRehearse number qubits items machine workers) cause why = inl (inl why)
+no_machine held (AskedTidy machine program) cause why = inl (inl why)
 
 pub machine_refuses : (words : List (List ℕ)) (held : Holding) (asked : Asked) (cause : Cause) → request_of words ≡ Some asked
     → MachineIn (Some held) (word_of asked) (Refuses cause) → IsDue words held (status_of cause)
@@ -44,6 +45,7 @@ no_circuit held (AskedExec machine program workers) m circuit cause given is why
 no_circuit held (AskedCheck machine file program) m circuit cause given is why =
     inl (inr (m, given, inl (subst (λ n. CircuitIn (Some held) n (Refuses cause)) (sym (same_Some file circuit is)) why)))
 no_circuit held (AskedRehearse number qubits items machine workers) m circuit cause given is why = absurd (cc)
+no_circuit held (AskedTidy machine program) m circuit cause given is why = absurd (cc)
 
 pub circuit_refuses : (words : List (List ℕ)) (held : Holding) (asked : Asked) (m : MachineData) (circuit : List ℕ) (cause : Cause) → request_of words ≡ Some asked
     → MachineIn (Some held) (word_of asked) (Gives m) → circuit_file asked ≡ Some circuit → CircuitIn (Some held) circuit (Refuses cause) → IsDue words held (status_of cause)
@@ -59,6 +61,8 @@ no_program held (AskedExec machine file workers) m program cause given drawn is 
 no_program held (AskedCheck machine circuit file) m program cause given (c, drawn) is why =
     inl (inr (m, given, inr (c, drawn, inl (subst (λ n. ProgramIn (Some held) m n (Refuses cause)) (sym (same_Some file program is)) why))))
 no_program held (AskedRehearse number qubits items machine workers) m program cause given drawn is why = absurd (cc)
+no_program held (AskedTidy machine file) m program cause given drawn is why =
+    inl (inr (m, given, subst (λ n. ProgramIn (Some held) m n (Refuses cause)) (sym (same_Some file program is)) why))
 
 pub program_refuses : (words : List (List ℕ)) (held : Holding) (asked : Asked) (m : MachineData) (program : List ℕ) (cause : Cause) → request_of words ≡ Some asked
     → MachineIn (Some held) (word_of asked) (Gives m) → HoldsCircuit held asked → program_file asked ≡ Some program → ProgramIn (Some held) m program (Refuses cause)
@@ -93,6 +97,7 @@ not_compiled held (AskedCompile machine file way) m circuit c mode cause given i
 not_compiled held (AskedExec machine program workers) m circuit c mode cause given is by drawn why = absurd (cc)
 not_compiled held (AskedCheck machine file program) m circuit c mode cause given is by drawn why = absurd (cc)
 not_compiled held (AskedRehearse number qubits items machine workers) m circuit c mode cause given is by drawn why = absurd (cc)
+not_compiled held (AskedTidy machine program) m circuit c mode cause given is by drawn why = absurd (cc)
 
 pub compiler_refuses : (words : List (List ℕ)) (held : Holding) (asked : Asked) (m : MachineData) (circuit : List ℕ) (c : CircuitData) (mode : Mode) (cause : Cause)
     → request_of words ≡ Some asked → MachineIn (Some held) (word_of asked) (Gives m) → circuit_file asked ≡ Some circuit → compiling_mode asked ≡ Some mode

@@ -14,10 +14,11 @@ use Rattle.qccd_program.specs.Implements.{Implements, KeepsBounds, MeetsOperands
 use Rattle.compiler.specs.Chosen.{chosen}
 use Rattle.rehearsal.specs.Generated.{generated}
 use Rattle.transport_asm.specs.ProgramText.{program_text}
+use Rattle.passes.specs.Tidy.{tidied}
 use Rattle.tracer.specs.Report.{report_text}
 use Rattle.tracer.specs.Summary.{summary_text}
 use Rattle.tracer.specs.TimeOrder.{listed_ops, KeepsBoundsListed}
-use Rattle.qccd_words.specs.Words.{AskedMachine, AskedRun, AskedCompile, AskedExec, AskedCheck, AskedRehearse, request_of}
+use Rattle.qccd_words.specs.Words.{AskedMachine, AskedRun, AskedCompile, AskedExec, AskedCheck, AskedRehearse, AskedTidy, request_of}
 use Rattle.qccd_top.specs.Stage.{Gives}
 use Rattle.qccd_top.specs.Stages.{MachineIn, CircuitIn}
 use Rattle.qccd_top.specs.Call.{Call, WriteFailed}
@@ -61,6 +62,12 @@ pub record AsksRehearsal (words : List (List ℕ)) : Type 0 where
   pub word : AskedMachine
   pub workers : ℕ
   pub asked : request_of words ≡ Some (AskedRehearse number qubits items word workers)
+
+-- the words ask for the text of the program in a file without operations that undo each other
+pub record AsksTidy (words : List (List ℕ)) : Type 0 where
+  pub word : AskedMachine
+  pub name : List ℕ
+  pub asked : request_of words ≡ Some (AskedTidy word name)
 
 -- ---- what a program does
 
@@ -165,3 +172,9 @@ pub record IsSummarized (call : Call) (asks : AsksRehearsal call.words) : Type 0
   pub program : ProgramData
   pub is_rehearsal : IsRehearsalOf call machine program asks
   pub written : call.out.new ≡ appended call.out.old (summary_text program asks.number asks.items)
+
+-- the text of the program in the file, without the operations that undo each other, was taken whole
+pub record IsTidyWritten (call : Call) (asks : AsksTidy call.words) : Type 0 where
+  pub program : ProgramData
+  pub is_loaded : IsLoaded call.told asks.word asks.name program
+  pub written : call.out.new ≡ appended call.out.old (program_text (tidied program))

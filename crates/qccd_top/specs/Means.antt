@@ -9,7 +9,8 @@ use Rattle.rehearsal.specs.Generated.{generated}
 use Rattle.tracer.specs.Report.{report_text}
 use Rattle.tracer.specs.Summary.{summary_text}
 use Rattle.transport_asm.specs.ProgramText.{program_text}
-use Rattle.qccd_words.specs.Words.{AskedMachine, Asked, AskedRun, AskedCompile, AskedExec, AskedCheck, AskedRehearse}
+use Rattle.passes.specs.Tidy.{tidied}
+use Rattle.qccd_words.specs.Words.{AskedMachine, Asked, AskedRun, AskedCompile, AskedExec, AskedCheck, AskedRehearse, AskedTidy}
 use Rattle.qccd_top.specs.Stage.{Stage, Gives, ◌>>=◌, Just}
 use Rattle.qccd_top.specs.Stages.{WordsOf, MachineIn, CircuitIn, Compiled, ProgramIn, SameAs}
 
@@ -58,6 +59,9 @@ TextOf told (AskedCheck machine circuit program) = do
 TextOf told (AskedRehearse number qubits items machine workers) = do
   p ← RehearsedIn told machine number qubits items
   Just (summary_text p number items)
+TextOf told (AskedTidy machine program) = do
+  p ← LoadedIn told machine program
+  Just (program_text (tidied p))
 
 -- what is written for these words
 abbrev pub TextFor : Option Holding → List (List ℕ) → Stage (List ℕ)
@@ -72,6 +76,7 @@ word_of (AskedCompile machine circuit mode) = machine
 word_of (AskedExec machine program workers) = machine
 word_of (AskedCheck machine circuit program) = machine
 word_of (AskedRehearse number qubits items machine workers) = machine
+word_of (AskedTidy machine program) = machine
 
 -- the file of the circuit, where there is one
 abbrev pub circuit_file : Asked → Option (List ℕ)
@@ -80,6 +85,7 @@ circuit_file (AskedCompile machine circuit mode) = Some circuit
 circuit_file (AskedExec machine program workers) = None
 circuit_file (AskedCheck machine circuit program) = Some circuit
 circuit_file (AskedRehearse number qubits items machine workers) = None
+circuit_file (AskedTidy machine program) = None
 
 -- the file of the program, where there is one
 abbrev pub program_file : Asked → Option (List ℕ)
@@ -88,6 +94,7 @@ program_file (AskedCompile machine circuit mode) = None
 program_file (AskedExec machine program workers) = Some program
 program_file (AskedCheck machine circuit program) = Some program
 program_file (AskedRehearse number qubits items machine workers) = None
+program_file (AskedTidy machine program) = Some program
 
 -- in which mode the circuit of the file is compiled, where it is
 abbrev pub compiling_mode : Asked → Option Mode
@@ -96,6 +103,7 @@ compiling_mode (AskedCompile machine circuit mode) = Some mode
 compiling_mode (AskedExec machine program workers) = None
 compiling_mode (AskedCheck machine circuit program) = None
 compiling_mode (AskedRehearse number qubits items machine workers) = None
+compiling_mode (AskedTidy machine program) = None
 
 -- where a circuit's file is named, it holds a circuit
 abbrev pub HoldsCircuit : Holding → Asked → Type 0

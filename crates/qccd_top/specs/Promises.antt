@@ -4,7 +4,7 @@ use Rattle.qccd_io.specs.Shelf.{Holding}
 use Rattle.qccd_words.specs.Words.{request_of}
 use Rattle.qccd_top.specs.Call.{Call, Output}
 use Rattle.qccd_top.specs.Done.{IsDone, IsAnswered, IsDue, IsDueOrFault}
-use Rattle.qccd_top.specs.Headline.{AsksRun, AsksCompile, AsksExec, AsksCheck, AsksRehearsal, IsReported, IsCutReport, IsProgramWritten, IsExecuted, IsSameTold, IsSummarized}
+use Rattle.qccd_top.specs.Headline.{AsksRun, AsksCompile, AsksExec, AsksCheck, AsksRehearsal, AsksTidy, IsReported, IsCutReport, IsProgramWritten, IsExecuted, IsSameTold, IsSummarized, IsTidyWritten}
 
 pub record Promises (call : Call) (err : Output) (status : ℕ) : Type 0 where
   -- For a run, what was written with status 0 is the report of the one program meant, which implements the circuit,
@@ -20,6 +20,8 @@ pub record Promises (call : Call) (err : Output) (status : ℕ) : Type 0 where
   pub checked : (asks : AsksCheck call.words) → status ≡ 0 → IsSameTold call asks
   -- For a rehearsal it is the summary of such a program for the circuit that is generated.
   pub rehearsed : (asks : AsksRehearsal call.words) → status ≡ 0 → IsSummarized call asks
+  -- For tidying it is the text of the program whose text is in the file, without the operations that undo each other.
+  pub tidied : (asks : AsksTidy call.words) → status ≡ 0 → IsTidyWritten call asks
   -- With status 0 the text that the words ask for was written, and nothing was told.
   pub done : status ≡ 0 → IsDone call
   pub quiet : status ≡ 0 → err.new ≡ err.old

@@ -2,7 +2,7 @@
 
 ghost use Rattle.std.specs.Prelude.{◌≡◌, None, IsErrAnd, map, string_bytes};
 ghost use Rattle.qccd_io.specs.Shelf.{NoneIsOut};
-ghost use Rattle.qccd_words.specs.Words.{AskedRun, AskedCompile, AskedExec, AskedCheck, AskedRehearse, asked, machine_asked, request_of, AreFew, AreWorkers, HasCapacity, IsWithinLimits};
+ghost use Rattle.qccd_words.specs.Words.{AskedRun, AskedCompile, AskedExec, AskedCheck, AskedRehearse, AskedTidy, asked, machine_asked, request_of, AreFew, AreWorkers, HasCapacity, IsWithinLimits};
 ghost use Rattle.qccd_messages.specs.Cause.{Words, cause_of};
 ghost use Rattle.qccd_top.specs.Means.{TextFor, TextOf};
 ghost use Rattle.qccd_top.specs.Done.{Does};
@@ -76,6 +76,7 @@ fn obey<'a, R: Threads + Sync, P: Post, F: Shelf, O: Sink>(
             machine,
             workers,
         } => rehearse(crew, number, qubits, items, machine, workers, shelf, out),
+        Command::Tidy { machine, program } => tidy(crew.alloc, machine, program, shelf, out),
     }
 }
 
@@ -172,4 +173,21 @@ fn rehearse<'a, R: Threads + Sync, P: Post, F: Shelf, O: Sink>(
     let program = rehearsed_in(crew.alloc, shelf, machine, number, qubits, items)?;
     let cells = crew.execute(&program, workers)?;
     write_summary(crew.alloc, &program, &cells, number, items, out)
+}
+
+/// Loads the program of the file of this name and writes its text without the operations that undo each other.
+fn tidy<'a, F: Shelf, O: Sink>(
+    alloc: Global,
+    machine: MachineWord<'a>,
+    program: &'a str,
+    shelf: &mut F,
+    out: &mut O,
+) -> Result<(), Refusal<'a>>
+    requires inside { NoneIsOut (F.told shelf.old) }
+    requires capacity { HasCapacity (machine_asked machine) }
+    ensures { Does F.told F.faults O.taken O.faults shelf.old shelf.new out.old out.new (λ told. TextOf told (AskedTidy (machine_asked machine.entry) program.now)) result }
+{
+    let loaded = loaded_in(alloc, shelf, machine, program)?;
+    let left = passes::tidy(alloc, loaded)?;
+    write_text(alloc, &left, out)
 }

@@ -25,7 +25,7 @@ ghost use Rattle.loader.specs.Refusal.{load_refusal, on_machine};
 ghost use Rattle.meaning_check.specs.Verdict.{IsVerdict};
 ghost use Rattle.meaning_check.specs.declared.verdict.Verdict.{Verdict};
 ghost use Rattle.meaning_check.specs.declared.verdict.Verdict.TheVariants.{Same};
-ghost use Rattle.qccd_words.specs.Words.{Asked, AskedMachine, OfPreset, OfFile, AskedRun, AskedCompile, AskedExec, AskedCheck, AskedRehearse, HasCapacity, request_of};
+ghost use Rattle.qccd_words.specs.Words.{Asked, AskedMachine, OfPreset, OfFile, AskedRun, AskedCompile, AskedExec, AskedCheck, AskedRehearse, AskedTidy, HasCapacity, request_of};
 ghost use Rattle.rehearsal.specs.Generated.{generated};
 ghost use Rattle.qccd_messages.specs.Cause.{Cause, Read, TooLarge, status_of};
 ghost use Rattle.qccd_top.specs.declared.limits.TheConstants.{CIRCUIT_LIMIT, MACHINE_LIMIT, PROGRAM_LIMIT};
@@ -230,6 +230,13 @@ pub fn refused_program()
 pub fn accepted_exec()
     ensures { (words : List (List ℕ)) (held : Holding) (machine : AskedMachine) (program : List ℕ) (workers : ℕ) (m : MachineData) (p : ProgramData)
         → request_of words ≡ Some (AskedExec machine program workers) → MachineIn (Some held) machine (Gives m) → ProgramIn (Some held) m program (Gives p)
+        → IsDue words held 0 }
+{}
+
+/// A program that its file holds is tidied: 0.
+pub fn accepted_tidy()
+    ensures { (words : List (List ℕ)) (held : Holding) (machine : AskedMachine) (program : List ℕ) (m : MachineData) (p : ProgramData)
+        → request_of words ≡ Some (AskedTidy machine program) → MachineIn (Some held) machine (Gives m) → ProgramIn (Some held) m program (Gives p)
         → IsDue words held 0 }
 {}
 

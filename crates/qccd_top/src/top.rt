@@ -22,8 +22,8 @@ pub struct Status(pub u8);
 /// after the program's own name. A program is run by as many workers as they say, each in a thread of its own, and
 /// `post` is told each operation that a worker does. What they leave is done by the caller, without telling it.
 ///
-/// With status 0 `out` took the report, the text of a program, that a program is the same as a circuit, or
-/// the summary of a rehearsal. With 4 a write failed, and `out` took a prefix of it; with any other status it
+/// With status 0 `out` took the report, the text of a program, tidied or not, that a program is the same as a circuit,
+/// or the summary of a rehearsal. With 4 a write failed, and `out` took a prefix of it; with any other status it
 /// took nothing. `err` is told why: 2 the words are of no form that is known, 3 a file could not be read, 5
 /// it has too many bytes, 6 the machine's file is refused, 7 the circuit's file is refused, 8 the machine
 /// takes fewer qubits, 9 the program might grow past its limit with the next item, 10 the program's file is

@@ -14,7 +14,7 @@ use Rattle.qccd_base.specs.declared.names.Mode.{Mode}
 use Rattle.qccd_base.specs.declared.names.Mode.TheVariants.{IonSwap}
 use Rattle.qccd_machine.specs.declared.place.Preset.{Preset}
 use Rattle.qccd_machine.specs.declared.place.Preset.TheVariants.{L6, G2x3, Single}
-use Rattle.qccd_words.specs.Words.{AskedMachine, OfPreset, OfFile, Asked, AskedRun, AskedCompile, AskedExec, AskedCheck, AskedRehearse, capacities, capacity_after, first_of, preset_named, begins_with_at, machine_of, mode_named, once, options_of, with_options, run_of, compile_of, exec_of, check_of, number_named, rehearse_asked, rehearse_of, request_of, AreWorkers, HasCapacity, IsWithinLimits}
+use Rattle.qccd_words.specs.Words.{AskedMachine, OfPreset, OfFile, Asked, AskedRun, AskedCompile, AskedExec, AskedCheck, AskedRehearse, AskedTidy, capacities, capacity_after, first_of, preset_named, begins_with_at, machine_of, mode_named, once, options_of, with_options, run_of, compile_of, exec_of, check_of, number_named, rehearse_asked, rehearse_of, tidy_of, request_of, AreWorkers, HasCapacity, IsWithinLimits}
 
 -- ---- the first number of a range that does
 
@@ -288,6 +288,13 @@ rehearse_limits (v ∷ w ∷ x ∷ y ∷ options) a is =
     parts_limits (number_named 0 2147483647 v) (number_named 1 256 w) (number_named 0 65536 x) y options a
     (λ n there. (named_within 0 2147483647 n v there).1) (λ n there. named_within 1 256 n w there) (λ n there. (named_within 0 65536 n x there).1) is
 
+tidy_limits : (words : List (List ℕ)) (a : Asked) → tidy_of words ≡ Some a → IsWithinLimits a
+tidy_limits [] a is = absurd (cc)
+tidy_limits (machine ∷ []) a is = absurd (cc)
+tidy_limits (machine ∷ program ∷ []) a is =
+    machine_limits (λ m. AskedTidy m program) (machine_of machine) a (λ m there. machine_bounds (begins_with_at machine) machine m there) is
+tidy_limits (machine ∷ program ∷ more ∷ words) a is = absurd (cc)
+
 -- by one test or else another
 by_test : (b : Bool) (o p : Option Asked) (a : Asked) → (o ≡ Some a → IsWithinLimits a) → (p ≡ Some a → IsWithinLimits a) → cond b o p ≡ Some a → IsWithinLimits a
 by_test true o p a here there is = here is
@@ -302,4 +309,5 @@ request-limits (command ∷ words) a is =
     (by_test (bytes_eq command (codes "compile")) (compile_of words) _ a (compile_limits words a)
     (by_test (bytes_eq command (codes "exec")) (exec_of words) _ a (exec_limits words a)
     (by_test (bytes_eq command (codes "check")) (check_of words) _ a (check_limits words a)
-    (by_test (bytes_eq command (codes "rehearse")) (rehearse_of words) None a (rehearse_limits words a) (λ none. absurd (cc)))))) is
+    (by_test (bytes_eq command (codes "rehearse")) (rehearse_of words) _ a (rehearse_limits words a)
+    (by_test (bytes_eq command (codes "tidy")) (tidy_of words) None a (tidy_limits words a) (λ none. absurd (cc))))))) is

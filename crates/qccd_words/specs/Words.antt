@@ -18,13 +18,15 @@ pub data AskedMachine : Type 0 where
   OfFile : (name : List ℕ) → AskedMachine
 
 -- a command on a machine: the run of the circuit in a file, its program's text, the run of the program in a file, a
--- program compared with a circuit, or the run of the circuit that is made from a number
+-- program compared with a circuit, the run of the circuit that is made from a number, or the text of a program without
+-- operations that undo each other
 pub data Asked : Type 0 where
   AskedRun : (machine : AskedMachine) (circuit : List ℕ) (workers : ℕ) (mode : Mode) → Asked
   AskedCompile : (machine : AskedMachine) (circuit : List ℕ) (mode : Mode) → Asked
   AskedExec : (machine : AskedMachine) (program : List ℕ) (workers : ℕ) → Asked
   AskedCheck : (machine : AskedMachine) (circuit program : List ℕ) → Asked
   AskedRehearse : (number qubits items : ℕ) (machine : AskedMachine) (workers : ℕ) → Asked
+  AskedTidy : (machine : AskedMachine) (program : List ℕ) → Asked
 
 -- the capacities that a word may give, from 2 to 32
 unfoldable pub capacities : List ℕ
@@ -129,6 +131,11 @@ rehearse_of (number ∷ qubits ∷ items ∷ machine ∷ options) =
     (options_of options None (Some IonSwap))
 rehearse_of _ = None
 
+-- what the words after `tidy` ask for
+abbrev pub tidy_of : List (List ℕ) → Option Asked
+tidy_of (machine ∷ program ∷ []) = option_map (λ m. AskedTidy m program) (machine_of machine)
+tidy_of _ = None
+
 -- what the words ask for, by the first of them
 abbrev pub request_of : List (List ℕ) → Option Asked
 request_of [] = None
@@ -138,6 +145,7 @@ request_of (command ∷ words) =
     else if bytes_eq command (codes "exec") then exec_of words
     else if bytes_eq command (codes "check") then check_of words
     else if bytes_eq command (codes "rehearse") then rehearse_of words
+    else if bytes_eq command (codes "tidy") then tidy_of words
     else None
 
 -- what a command of the code asks for
@@ -151,6 +159,7 @@ asked (command.Compile machine circuit mode) = AskedCompile (machine_asked machi
 asked (command.Exec machine program workers) = AskedExec (machine_asked machine) program.now workers
 asked (command.Check machine circuit program) = AskedCheck (machine_asked machine) circuit.now program.now
 asked (command.Rehearse number qubits items machine workers) = AskedRehearse number qubits items (machine_asked machine) workers
+asked (command.Tidy machine program) = AskedTidy (machine_asked machine) program.now
 
 -- a capacity that is asked for is from 2 to 32
 abbrev pub HasCapacity : AskedMachine → Type 0
@@ -172,3 +181,4 @@ IsWithinLimits (AskedCompile machine circuit mode) = HasCapacity machine
 IsWithinLimits (AskedExec machine program workers) = HasCapacity machine × AreWorkers workers
 IsWithinLimits (AskedCheck machine circuit program) = HasCapacity machine
 IsWithinLimits (AskedRehearse number qubits items machine workers) = HasCapacity machine × AreWorkers workers × AreFew number qubits items
+IsWithinLimits (AskedTidy machine program) = HasCapacity machine

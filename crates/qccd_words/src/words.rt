@@ -1,7 +1,7 @@
 //! What the words of the command line ask for.
 
 ghost use Rattle.std.specs.Prelude.{◌≡◌, ℕ, ◌≤◌, ◌↔◌, map, Some, IfSome, option_map, string_bytes, decimal};
-ghost use Rattle.qccd_words.specs.Words.{asked, machine_asked, capacity_after, preset_named, machine_of, mode_named, number_named, options_of, check_of, compile_of, exec_of, rehearse_of, request_of, run_of, AreWorkers, HasCapacity, IsWithinLimits};
+ghost use Rattle.qccd_words.specs.Words.{asked, machine_asked, capacity_after, preset_named, machine_of, mode_named, number_named, options_of, check_of, compile_of, exec_of, rehearse_of, request_of, run_of, tidy_of, AreWorkers, HasCapacity, IsWithinLimits};
 
 use qccd_base::{Mode, read_number};
 use qccd_machine::Preset;
@@ -81,14 +81,20 @@ pub enum Command<'a> {
         /// How many workers run the program: 1 to 16.
         workers: u8,
     },
+    /// Write the text of a program, on a machine, without the operations that undo each other.
+    Tidy {
+        machine: MachineWord<'a>,
+        /// The name of the program's file.
+        program: &'a str,
+    },
 }
 
 /// What the words ask for, or `None` where they are of no form that is known. The words are those
 /// after the program's own name. It takes no memory.
 ///
-/// There are five forms: `run MACHINE CIRCUIT`, `compile MACHINE CIRCUIT`, `exec MACHINE PROGRAM`, `check MACHINE
-/// CIRCUIT PROGRAM` and `rehearse NUMBER QUBITS ITEMS MACHINE`, with a number of at most 2,147,483,647, 1 to 256
-/// qubits and at most 65,536 items. The machine is `@L6`, `@G2x3` or `@single`, or one of these with a colon and a
+/// There are six forms: `run MACHINE CIRCUIT`, `compile MACHINE CIRCUIT`, `exec MACHINE PROGRAM`, `check MACHINE
+/// CIRCUIT PROGRAM`, `rehearse NUMBER QUBITS ITEMS MACHINE`, with a number of at most 2,147,483,647, 1 to 256
+/// qubits and at most 65,536 items, and `tidy MACHINE PROGRAM`. The machine is `@L6`, `@G2x3` or `@single`, or one of these with a colon and a
 /// capacity from 2 to 32, or any word that does not begin with `@`, which is the name of a file. The circuit and the
 /// program are any word as it stands. An empty word is the name of a file, too.
 ///
@@ -105,6 +111,7 @@ pub fn request(words: &[String]) -> Option<Command<'_>>
         [command, words @ ..] if command.as_str() == "exec" => exec_words(words),
         [command, words @ ..] if command.as_str() == "check" => check_words(words),
         [command, words @ ..] if command.as_str() == "rehearse" => rehearsal_words(words),
+        [command, words @ ..] if command.as_str() == "tidy" => tidy_words(words),
         _ => None,
     }
 }
@@ -196,6 +203,20 @@ fn rehearsal_words(words: &[String]) -> Option<Command<'_>>
         machine,
         workers,
     })
+}
+
+// The tidying that the words after the first one ask for.
+fn tidy_words(words: &[String]) -> Option<Command<'_>>
+    ensures asked { option_map asked result ≡ tidy_of (map string_bytes words.now) }
+    ensures limits { IfSome result (λ c. IsWithinLimits (asked c)) }
+{
+    match words {
+        [machine, program] => Some(Command::Tidy {
+            machine: machine_word(machine.as_str())?,
+            program: program.as_str(),
+        }),
+        _ => None,
+    }
 }
 
 // The number in the range whose text the word is.

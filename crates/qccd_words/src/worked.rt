@@ -3,7 +3,7 @@
 ghost use Rattle.std.specs.Prelude.{◌≡◌, [], ◌∷◌, Some, None, codes};
 ghost use Rattle.qccd_base.specs.declared.names.Mode.TheVariants.{IonSwap, GateSwap};
 ghost use Rattle.qccd_machine.specs.declared.place.Preset.TheVariants.{L6, G2x3, Single};
-ghost use Rattle.qccd_words.specs.Words.{AskedExec, AskedRehearse, AskedRun, OfPreset, OfFile, machine_of, number_named, options_of, request_of};
+ghost use Rattle.qccd_words.specs.Words.{AskedExec, AskedRehearse, AskedTidy, AskedRun, OfPreset, OfFile, machine_of, number_named, options_of, request_of};
 
 /// A run in one trap of at most two ions, with the usual workers and mode, and a number with a
 /// leading zero in place of the two, which asks for nothing.
@@ -61,6 +61,14 @@ pub fn rehearsal_in_one_trap()
     ensures workers { request_of (codes "rehearse" ∷ codes "1" ∷ codes "3" ∷ codes "4" ∷ codes "@single:4" ∷ codes "--workers" ∷ codes "1" ∷ [])
         ≡ Some (AskedRehearse 1 3 4 (OfPreset Single 4) 1) }
     ensures too_few { request_of (codes "rehearse" ∷ codes "1" ∷ codes "3" ∷ codes "4" ∷ []) ≡ None }
+{}
+
+/// A program is tidied on a machine, with no option and no further word.
+pub fn tidying_on_a_line()
+    ensures whole { request_of (codes "tidy" ∷ codes "@L6:5" ∷ codes "p" ∷ []) ≡ Some (AskedTidy (OfPreset L6 5) (codes "p")) }
+    ensures further { request_of (codes "tidy" ∷ codes "@L6:5" ∷ codes "p" ∷ codes "q" ∷ []) ≡ None }
+    ensures no_program { request_of (codes "tidy" ∷ codes "@L6:5" ∷ []) ≡ None }
+    ensures no_machine { request_of (codes "tidy" ∷ codes "@L7" ∷ codes "p" ∷ []) ≡ None }
 {}
 
 /// What words name as a number in a range.

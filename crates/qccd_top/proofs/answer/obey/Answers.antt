@@ -14,3 +14,6 @@ returns-in-Check g c = rw c.in-Check.is c.check.ensures
 
 pub returns-in-Rehearse : goal.returns-in-Rehearse
 returns-in-Rehearse g c = rw c.in-Rehearse.is c.rehearse.ensures
+
+pub returns-in-Tidy : goal.returns-in-Tidy
+returns-in-Tidy g c = rw c.in-Tidy.is c.tidy.ensures
