@@ -67,6 +67,7 @@ fenced-legal = record {
   items_fit = (h_fits 0, (both_fits, (h_fits 1, tt)));
   run = (refl, (refl, (refl, tt)));
   once = once_each;
+  of_mode = (refl, (refl, (refl, tt)));
 }
 
 one_trap : (P : Res → Type 0) (t r : Res) → P t → among (t ∷ []) r ≡ true → P r

@@ -1,5 +1,5 @@
 -- A gate in the first trap, a barrier over two traps and a gate in the second, and the boards of two workers.
-use Rattle.std.specs.Prelude.{List, [], ◌∷◌}
+use Rattle.std.specs.Prelude.{List, [], ◌∷◌, None}
 use Rattle.qccd_base.specs.Names.{ion, qubit, trap}
 use Rattle.qccd_base.specs.declared.names.Res.{Res}
 use Rattle.qccd_base.specs.declared.names.Res.TheVariants as res
@@ -22,6 +22,7 @@ fenced = record {
   machine = preset_of L6 3;
   qubits = 2;
   bits = 0;
+  mode = None;
   start = (ion 0 ∷ []) ∷ (ion 1 ∷ []) ∷ [] ∷ [] ∷ [] ∷ [] ∷ [];
   ops = Item 0 (trap 0) (h_on 0) (0 ∷ []) ∷ Fence 1 both (trap 0 ∷ trap 1 ∷ []) ∷ Item 2 (trap 1) (h_on 1) (0 ∷ []) ∷ [];
 }

@@ -1,5 +1,5 @@
 -- Worked examples: programs with steps that undo each other, and the cooled report of a program of two traps.
-use Rattle.std.specs.Prelude.{ℕ, List, [], ◌∷◌, codes, map}
+use Rattle.std.specs.Prelude.{ℕ, List, [], ◌∷◌, None, codes, map}
 use Rattle.qccd_base.specs.Names.{ion, segment, trap}
 use Rattle.qccd_base.specs.declared.names.End.TheVariants.{Left, Right}
 use Rattle.qccd_circuit.specs.Example.{h_on}
@@ -15,7 +15,7 @@ abbrev pub x_on_first : OpKind
 x_on_first = Item 0 (trap 0) (x_on 0) (0 ∷ [])
 
 abbrev pub of_two_ions : List OpKind → ProgramData
-of_two_ions ops = record { machine = pair; qubits = 2; bits = 0; start = (ion 0 ∷ ion 1 ∷ []) ∷ [] ∷ []; ops = ops }
+of_two_ions ops = record { machine = pair; qubits = 2; bits = 0; mode = None; start = (ion 0 ∷ ion 1 ∷ []) ∷ [] ∷ []; ops = ops }
 
 abbrev pub out_and_back : List OpKind
 out_and_back =

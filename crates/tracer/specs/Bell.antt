@@ -1,5 +1,5 @@
 -- The Bell pair on one trap, as a worked example.
-use Rattle.std.specs.Prelude.{ℕ, List, [], ◌∷◌, codes, flat_map}
+use Rattle.std.specs.Prelude.{ℕ, List, [], ◌∷◌, None, codes, flat_map}
 use Rattle.qccd_base.specs.Line.{line}
 use Rattle.qccd_base.specs.Names.{ion, trap}
 use Rattle.qccd_circuit.specs.Example.{h_on, cx_on}
@@ -13,6 +13,7 @@ bell = record {
   machine = single 16;
   qubits = 2;
   bits = 0;
+  mode = None;
   start = (ion 0 ∷ ion 1 ∷ []) ∷ [];
   ops = Item 0 (trap 0) (h_on 0) (0 ∷ []) ∷ Item 1 (trap 0) (cx_on 0 1) (0 ∷ 1 ∷ []) ∷ [];
 }
