@@ -14,7 +14,7 @@ use Rattle.qccd_circuit.specs.declared.kinds.Cond.{Cond}
 use Rattle.qccd_circuit.specs.Item.{AreAngles, Fits, IsCond, IsGateName, IsName, are_distinct, is_angle, is_word}
 use Rattle.gate_defs.specs.declared.kinds.Arg.{Arg}
 use Rattle.gate_defs.specs.declared.kinds.Def.{Def}
-use Rattle.gate_defs.specs.Gates.{Shape, always, first_table, plain_shape, second_table, shape_in}
+use Rattle.gate_defs.specs.Gates.{Gate, always, gate_in, gate_of, included, plain_gate}
 use Rattle.gate_defs.specs.Items.{barrier_on, ccx_items, cswap_items, cx, gate_on, on_three, one}
 use Rattle.gate_defs.specs.Meaning.{def_at, texts}
 use Rattle.gate_defs.specs.Rule.{AreArgs, AreDefs, HasShape, IsBody, MayApply}
@@ -55,57 +55,57 @@ gate_fits name angles (a ∷ b ∷ []) cond is_name is_gate are distinct is_cond
 gate_fits name angles (a ∷ b ∷ c ∷ on) cond is_name is_gate are distinct is_cond some few = absurd (omega (arith, few))
 
 -- what the tables say of each gate that is one item
-abbrev pub is_row : List ℕ × Shape → Bool
-is_row row =
-    (bytes_eq row.0 (codes "ccx") || bytes_eq row.0 (codes "cswap"))
-    || (can_be_name row.0 && (nat_le row.1.angles 16 && (nat_le 1 row.1.qubits && nat_le row.1.qubits 2)))
+abbrev pub is_row : List ℕ → Gate → Bool
+is_row name g =
+    (bytes_eq name (codes "ccx") || bytes_eq name (codes "cswap"))
+    || (can_be_name name && (nat_le g.angles 16 && (nat_le 1 g.qubits && nat_le g.qubits 2)))
 
-pub record IsRow (name : List ℕ) (s : Shape) : Type 0 where
+pub record IsRow (name : List ℕ) (g : Gate) : Type 0 where
   pub is_name : IsName name
   pub is_gate : IsGateName name
-  pub angles : s.angles ≤ 16
-  pub some : 1 ≤ s.qubits
-  pub few : s.qubits ≤ 2
+  pub angles : g.angles ≤ 16
+  pub some : 1 ≤ g.qubits
+  pub few : g.qubits ≤ 2
 
-row_from : (name : List ℕ) (s : Shape) → bytes_eq name (codes "ccx") ≡ false → bytes_eq name (codes "cswap") ≡ false → is_row (name, s) ≡ true → IsRow name s
-row_from name s ccx cswap is =
-    let parts : can_be_name name && (nat_le s.angles 16 && (nat_le 1 s.qubits && nat_le s.qubits 2)) ≡ true =
-    sym (ap (λ (b : Bool). (b || bytes_eq name (codes "cswap")) || (can_be_name name && (nat_le s.angles 16 && (nat_le 1 s.qubits && nat_le s.qubits 2)))) ccx
-    ∙ ap (λ (b : Bool). b || (can_be_name name && (nat_le s.angles 16 && (nat_le 1 s.qubits && nat_le s.qubits 2)))) cswap) ∙ is in
+row_from : (name : List ℕ) (g : Gate) → bytes_eq name (codes "ccx") ≡ false → bytes_eq name (codes "cswap") ≡ false → is_row name g ≡ true → IsRow name g
+row_from name g ccx cswap is =
+    let parts : can_be_name name && (nat_le g.angles 16 && (nat_le 1 g.qubits && nat_le g.qubits 2)) ≡ true =
+    sym (ap (λ (b : Bool). (b || bytes_eq name (codes "cswap")) || (can_be_name name && (nat_le g.angles 16 && (nat_le 1 g.qubits && nat_le g.qubits 2)))) ccx
+    ∙ ap (λ (b : Bool). b || (can_be_name name && (nat_le g.angles 16 && (nat_le 1 g.qubits && nat_le g.qubits 2)))) cswap) ∙ is in
     let named = and_parts (can_be_name name) _ parts in
-    let angles = and_parts (nat_le s.angles 16) _ named.1 in
-    let qubits = and_parts (nat_le 1 s.qubits) _ angles.1 in
+    let angles = and_parts (nat_le g.angles 16) _ named.1 in
+    let qubits = and_parts (nat_le 1 g.qubits) _ angles.1 in
     let both = names name named.0 in
-    record { is_name = both.0; is_gate = both.1; angles = leb-true s.angles 16 angles.0; some = leb-true 1 s.qubits qubits.0; few = leb-true s.qubits 2 qubits.1 }
+    record { is_name = both.0; is_gate = both.1; angles = leb-true g.angles 16 angles.0; some = leb-true 1 g.qubits qubits.0; few = leb-true g.qubits 2 qubits.1 }
 
-row_in : (rows : List (List ℕ × Shape)) (name : List ℕ) (s : Shape) → list_all is_row rows ≡ true → shape_in rows name ≡ Some s → is_row (name, s) ≡ true
-row_in [] name s all is = cc
-row_in (row ∷ rows) name s all is = by_name (bytes_eq name row.0) refl is (λ e. row_in rows name s (and_parts (is_row row) _ all).1 e)
+-- what holds of each gate of a table holds of the one that is found
+pub holds_in :
+    (test : List ℕ → Gate → Bool) (gs : List Gate) (name : List ℕ) (g : Gate) → list_all (λ h. test h.name h) gs ≡ true → gate_in gs name ≡ Some g → test name g ≡ true
+holds_in test [] name g all is = cc
+holds_in test (h ∷ gs) name g all is =
+    let parts = and_parts (test h.name h) (list_all (λ h. test h.name h) gs) all in
+    by_name (bytes_eq name h.name) refl is parts.0 (holds_in test gs name g parts.1)
   where
-    same_some : (t : Shape) → Some t ≡ Some s → t ≡ s
+    same_some : (t : Gate) → Some t ≡ Some g → t ≡ g
     same_some t e = cc
 
     by_name :
-        (b : Bool) → bytes_eq name row.0 ≡ b → elim b as (λ _. Option Shape) [ true ↦ Some row.1 | false ↦ shape_in rows name ] ≡ Some s
-        → (shape_in rows name ≡ Some s → is_row (name, s) ≡ true) → is_row (name, s) ≡ true
-    by_name true here e more =
-        let same : name ≡ row.0 = (bytes_eq-Decides name row.0).0 here in
-        subst (λ (t : Shape). is_row (name, t) ≡ true) (same_some row.1 e) (subst (λ (n : List ℕ). is_row (n, row.1) ≡ true) (sym same) (and_parts (is_row row) (list_all is_row rows) all).0)
-    by_name false here e more = more e
+        (b : Bool) → bytes_eq name h.name ≡ b → elim b as (λ _. Option Gate) [ true ↦ Some h | false ↦ gate_in gs name ] ≡ Some g → test h.name h ≡ true
+        → (gate_in gs name ≡ Some g → test name g ≡ true) → test name g ≡ true
+    by_name true here e first more =
+        subst (λ (t : Gate). test name t ≡ true) (same_some h e) (subst (λ (n : List ℕ). test n h ≡ true) (sym ((bytes_eq-Decides name h.name).0 here)) first)
+    by_name false here e first more = more e
 
-pub plain_row : (name : List ℕ) (s : Shape) → plain_shape name ≡ Some s → IsRow name s
-plain_row name s is = by_ccx (bytes_eq name (codes "ccx")) refl is
+pub plain_row : (name : List ℕ) (g : Gate) → plain_gate name ≡ Some g → IsRow name g
+plain_row name g is = by_ccx (bytes_eq name (codes "ccx")) refl is
   where
-    rows : List (List ℕ × Shape)
-    rows = always ++ first_table ++ second_table
-
-    by_cswap : (c : Bool) → bytes_eq name (codes "ccx") ≡ false → bytes_eq name (codes "cswap") ≡ c → (if c then None else shape_in rows name) ≡ Some s → IsRow name s
+    by_cswap : (c : Bool) → bytes_eq name (codes "ccx") ≡ false → bytes_eq name (codes "cswap") ≡ c → (if c then None else gate_of true name) ≡ Some g → IsRow name g
     by_cswap true ccx here e = cc
-    by_cswap false ccx here e = row_from name s ccx here (row_in rows name s refl e)
+    by_cswap false ccx here e = row_from name g ccx here (holds_in is_row (always ++ included) name g refl e)
 
     by_ccx :
         (b : Bool) → bytes_eq name (codes "ccx") ≡ b
-        → (if b then None else (if bytes_eq name (codes "cswap") then None else shape_in rows name)) ≡ Some s → IsRow name s
+        → (if b then None else (if bytes_eq name (codes "cswap") then None else gate_of true name)) ≡ Some g → IsRow name g
     by_ccx true here e = cc
     by_ccx false here e = by_cswap (bytes_eq name (codes "cswap")) here refl e
 
@@ -114,11 +114,11 @@ args_fit args are few = (list_all-map is_angle (λ (a : Arg). a.text) args ∙ a
 
 -- a gate of the tables
 pub plain_fits :
-    (name : List ℕ) (args : List Arg) (on : List Qubit) (cond : Option Cond) → HasShape (length args) (length on) (plain_shape name) → AreArgs args
+    (name : List ℕ) (args : List Arg) (on : List Qubit) (cond : Option Cond) → HasShape (length args) (length on) (plain_gate name) → AreArgs args
     → IsTrue (are_distinct on) → IsCond cond → Fits (gate_on name (texts args) on cond)
-plain_fits name args on cond has are distinct is_cond = by_shape (plain_shape name) refl has
+plain_fits name args on cond has are distinct is_cond = by_shape (plain_gate name) refl has
   where
-    by_shape : (o : Option Shape) → plain_shape name ≡ o → HasShape (length args) (length on) o → Fits (gate_on name (texts args) on cond)
+    by_shape : (o : Option Gate) → plain_gate name ≡ o → HasShape (length args) (length on) o → Fits (gate_on name (texts args) on cond)
     by_shape None is has = absurd has
     by_shape (Some s) is has =
         let row = plain_row name s is in

@@ -24,14 +24,14 @@ AreBelow n qs = All (λ (q : Qubit). q.0 < n) qs
 
 -- ---- the item rule
 
-ccx_fits : (qs : List Qubit) (cond : Option Cond) → are_distinct qs ≡ true → IsCond cond → AllByRecursion Fits (on_three ccx_items qs cond)
+pub ccx_fits : (qs : List Qubit) (cond : Option Cond) → are_distinct qs ≡ true → IsCond cond → AllByRecursion Fits (on_three ccx_items qs cond)
 ccx_fits [] cond distinct is_cond = tt
 ccx_fits (a ∷ []) cond distinct is_cond = tt
 ccx_fits (a ∷ b ∷ []) cond distinct is_cond = tt
 ccx_fits (a ∷ b ∷ c ∷ []) cond distinct is_cond = ccx_all a b c cond distinct is_cond
 ccx_fits (a ∷ b ∷ c ∷ d ∷ qs) cond distinct is_cond = tt
 
-cswap_fits : (qs : List Qubit) (cond : Option Cond) → are_distinct qs ≡ true → IsCond cond → AllByRecursion Fits (on_three cswap_items qs cond)
+pub cswap_fits : (qs : List Qubit) (cond : Option Cond) → are_distinct qs ≡ true → IsCond cond → AllByRecursion Fits (on_three cswap_items qs cond)
 cswap_fits [] cond distinct is_cond = tt
 cswap_fits (a ∷ []) cond distinct is_cond = tt
 cswap_fits (a ∷ b ∷ []) cond distinct is_cond = tt
@@ -98,14 +98,14 @@ three_below n a b c qs below =
     let rest = All-tail P a (b ∷ c ∷ qs) below in
     record { first = All-head P a (b ∷ c ∷ qs) below; second = All-head P b (c ∷ qs) rest; third = All-head P c qs (All-tail P b (c ∷ qs) rest) }
 
-ccx_within : (n m : ℕ) (qs : List Qubit) (cond : Option Cond) → AreBelow n qs → All (λ (b : Bit). b.0 < m) (cond_bits cond) → AllByRecursion (IsWithin n m) (on_three ccx_items qs cond)
+pub ccx_within : (n m : ℕ) (qs : List Qubit) (cond : Option Cond) → AreBelow n qs → All (λ (b : Bit). b.0 < m) (cond_bits cond) → AllByRecursion (IsWithin n m) (on_three ccx_items qs cond)
 ccx_within n m [] cond below bits = tt
 ccx_within n m (a ∷ []) cond below bits = tt
 ccx_within n m (a ∷ b ∷ []) cond below bits = tt
 ccx_within n m (a ∷ b ∷ c ∷ []) cond below bits = let is = three_below n a b c [] below in three_within n m a b c cond is.first is.second is.third bits
 ccx_within n m (a ∷ b ∷ c ∷ d ∷ qs) cond below bits = tt
 
-cswap_within : (n m : ℕ) (qs : List Qubit) (cond : Option Cond) → AreBelow n qs → All (λ (b : Bit). b.0 < m) (cond_bits cond) → AllByRecursion (IsWithin n m) (on_three cswap_items qs cond)
+pub cswap_within : (n m : ℕ) (qs : List Qubit) (cond : Option Cond) → AreBelow n qs → All (λ (b : Bit). b.0 < m) (cond_bits cond) → AllByRecursion (IsWithin n m) (on_three cswap_items qs cond)
 cswap_within n m [] cond below bits = tt
 cswap_within n m (a ∷ []) cond below bits = tt
 cswap_within n m (a ∷ b ∷ []) cond below bits = tt

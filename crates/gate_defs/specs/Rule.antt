@@ -12,7 +12,7 @@ use Rattle.gate_defs.specs.declared.kinds.Callee.{Callee}
 use Rattle.gate_defs.specs.declared.kinds.Callee.TheVariants.{Plain, Ccx, Cswap, Defined, Barrier}
 use Rattle.gate_defs.specs.declared.kinds.BodyStep.{BodyStep}
 use Rattle.gate_defs.specs.declared.kinds.Def.{Def}
-use Rattle.gate_defs.specs.Gates.{Shape, plain_shape}
+use Rattle.gate_defs.specs.Gates.{Gate, plain_gate}
 use Rattle.gate_defs.specs.Meaning.{Application, def_at}
 use Rattle.gate_defs.specs.Measures.{depth_over, depths, weight_over, weights}
 
@@ -46,9 +46,9 @@ are_distinct [] = true
 are_distinct (w ∷ ws) = not (list_any (λ v. v == w) ws) && are_distinct ws
 
 -- a gate of the tables takes so many angles and qubits
-abbrev pub HasShape : ℕ → ℕ → Option Shape → Type 0
+abbrev pub HasShape : ℕ → ℕ → Option Gate → Type 0
 HasShape angles qubits None = ⊥
-HasShape angles qubits (Some s) = (angles ≡ s.angles) × (qubits ≡ s.qubits)
+HasShape angles qubits (Some g) = (angles ≡ g.angles) × (qubits ≡ g.qubits)
 
 -- an opaque gate can be applied on one or two qubits
 abbrev pub MayApply : Option (List BodyStep) → ℕ → Type 0
@@ -57,7 +57,7 @@ MayApply (Some steps) qubits = Unit {0}
 
 -- the callee can be applied to so many angles and qubits
 abbrev pub IsCalled : List Def → Callee → ℕ → ℕ → Type 0
-IsCalled defs (Plain name) angles qubits = HasShape angles qubits (plain_shape name)
+IsCalled defs (Plain name) angles qubits = HasShape angles qubits (plain_gate name)
 IsCalled defs Ccx angles qubits = (angles ≡ 0) × (qubits ≡ 3)
 IsCalled defs Cswap angles qubits = (angles ≡ 0) × (qubits ≡ 3)
 IsCalled defs (Defined id) angles qubits =

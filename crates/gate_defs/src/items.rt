@@ -51,8 +51,9 @@ const CCX: [Step; 15] = [
 // What `cswap` has before and behind a `ccx`.
 const AROUND: [Step; 1] = [Step::Cx(Wire::C, Wire::B)];
 
-// The item on these qubits with no bit of its own.
-fn item_on(
+/// The item on these qubits with no bit of its own.
+#[inline(always)]
+pub fn item_on(
     alloc: Global,
     kind: ItemKind,
     name: &[u8],
@@ -170,8 +171,8 @@ fn add_steps(
     Ok(())
 }
 
-// Puts the items of a `ccx` at the end.
-fn add_ccx(
+/// Puts the items of a `ccx` on three qubits at the end. On other numbers of qubits there is none.
+pub fn add_ccx(
     alloc: Global,
     qubits: &[Qubit],
     cond: Option<Cond>,
@@ -187,8 +188,8 @@ fn add_ccx(
     }
 }
 
-// Puts the items of a `cswap` at the end.
-fn add_cswap(
+/// Puts the items of a `cswap` on three qubits at the end. On other numbers of qubits there is none.
+pub fn add_cswap(
     alloc: Global,
     qubits: &[Qubit],
     cond: Option<Cond>,

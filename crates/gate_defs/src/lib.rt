@@ -18,5 +18,6 @@ pub mod worked;
 
 pub use defs::Defs;
 pub use faults::ExpandFault;
+pub use items::{add_ccx, add_cswap, item_on};
 pub use kinds::{Arg, BodyStep, Callee, Def, Piece};
 pub use lists::{ItemList, PieceList, PieceLists, StepList, WireList};

@@ -6,7 +6,7 @@ ghost use Rattle.qccd_circuit.specs.declared.kinds.ItemKind.TheVariants.{Gate1, 
 ghost use Rattle.gate_defs.specs.declared.kinds.Callee.TheVariants.{Defined, Plain};
 ghost use Rattle.gate_defs.specs.Angles.{arg};
 ghost use Rattle.gate_defs.specs.Example.{alone, digits, fence, g, growing, own_cswap, sized, sum, twice, two_bits};
-ghost use Rattle.gate_defs.specs.Gates.{plain_shape, shape};
+ghost use Rattle.gate_defs.specs.Gates.{gate, plain_gate};
 ghost use Rattle.gate_defs.specs.Items.{barrier_on, cx, gate_item, one};
 ghost use Rattle.gate_defs.specs.Meaning.{any_long, applications, expansion};
 ghost use Rattle.gate_defs.specs.Measures.{count, depth, weight};
@@ -60,9 +60,9 @@ pub fn long_angles()
 
 /// What may be applied: each gate of the tables but two, and an opaque gate on two qubits at most.
 pub fn callees()
-    ensures always { plain_shape (codes "U") ≡ Some (shape 3 1) }
-    ensures first { plain_shape (codes "cu3") ≡ Some (shape 3 2) }
-    ensures second { plain_shape (codes "cu") ≡ Some (shape 4 2) }
+    ensures always { plain_gate (codes "U") ≡ Some (gate (codes "U") 3 1) }
+    ensures first { plain_gate (codes "cu3") ≡ Some (gate (codes "cu3") 3 2) }
+    ensures second { plain_gate (codes "cu") ≡ Some (gate (codes "cu") 4 2) }
     ensures ccx { IsCalled [] (Plain (codes "ccx")) 0 3 → ⊥ }
     ensures other { IsCalled [] (Plain (codes "foo")) 0 1 → ⊥ }
     ensures no_body { IsCalled sized (Defined 0) 0 3 → ⊥ }

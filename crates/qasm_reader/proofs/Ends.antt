@@ -5,7 +5,8 @@ use Rattle.std.specs.List.{flat_map, range_with_len}
 use Rattle.std.proofs.lemmas.Bool.{not_from_true}
 use Rattle.std.proofs.lemmas.List.{append_assoc, append-nil, length-append}
 use Rattle.qasm_reader.specs.declared.kinds.Operand.{Operand}
-use Rattle.qasm_reader.specs.Gates.{Gate, applied}
+use Rattle.gate_defs.specs.Gates.{Gate}
+use Rattle.qasm_reader.specs.Gates.{applied}
 use Rattle.qasm_reader.specs.Operand.{cell_of, gate_items, times}
 use Rattle.qasm_lex.specs.declared.tokens.TokenKind.TheVariants as token
 use Rattle.qccd_circuit.specs.Item.{ItemData}

@@ -1,23 +1,25 @@
 -- The items of statements keep the item rule, and are on qubits and bits that there are.
-use Rattle.std.proofs.Common.{◌≡◌, ◌≢◌, ℕ, ◌+◌, ◌<◌, ◌≤◌, ◌==◌, Bool, true, false, not, ◌&&◌, ◌||◌, List, [], ◌∷◌, ◌++◌, map, length, All, Option, Some, None, codes, refl, sym, ap, subst, ◌∙◌, arith}
-use Rattle.std.specs.Prelude.{nat_le, zero, suc, if◌then◌else◌}
+use Rattle.std.proofs.Common.{◌≡◌, ℕ, ◌+◌, ◌<◌, ◌≤◌, ◌==◌, Bool, true, false, not, ◌&&◌, ◌||◌, List, [], ◌∷◌, ◌++◌, map, length, All, Option, Some, None, codes, refl, sym, ap, subst, ◌∙◌, arith}
+use Rattle.std.specs.Prelude.{zero, suc, if◌then◌else◌}
 use Rattle.std.specs.Str.{bytes_eq}
-use Rattle.std.specs.List.{list_any, range_with_len, flat_map}
-use Rattle.std.proofs.lemmas.Bool.{false≢true, and_from, and_parts, eqb-false, eqb-true, leb-true, ne_eqb, not_from_true, or_parts}
-use Rattle.std.proofs.lemmas.Slice.Eq.{bytes_eq-Decides}
+use Rattle.std.specs.List.{AllByRecursion, list_any, range_with_len, flat_map}
+use Rattle.std.proofs.lemmas.Bool.{false≢true, and_from, and_parts, eqb-false, eqb-true, ne_eqb, or_parts}
 use Rattle.std.proofs.lemmas.List.Elements.{All-append, All-cons, All-head, All-map, All-nil, All-tail}
 use Rattle.std.proofs.lemmas.List.{length-append, length-map}
 use Rattle.std.proofs.lemmas.List.FromFn.{length-range_with_len}
 use Rattle.qccd_base.specs.Names.{qubit, bit}
 use Rattle.qccd_base.specs.declared.names.Qubit.{Qubit}
 use Rattle.qccd_base.specs.declared.names.Bit.{Bit}
-use Rattle.qccd_circuit.specs.declared.kinds.ItemKind.TheVariants.{Gate1, Gate2}
 use Rattle.qccd_circuit.specs.Circuit.{IsWithin}
-use Rattle.qccd_circuit.specs.Item.{ItemData, Fits, AreAngles, IsGateName, IsName, are_distinct, has_qubit, is_word}
+use Rattle.qccd_circuit.specs.Item.{ItemData, Fits, AreAngles, are_distinct, has_qubit}
 use Rattle.qasm_reader.specs.declared.kinds.Operand.{Operand}
-use Rattle.qasm_reader.specs.Gates.{Gate, applied, ccx_items, cswap_items, cx, gate_item, one}
+use Rattle.gate_defs.specs.Gates.{Gate}
+use Rattle.gate_defs.specs.Items.{ccx_items, cswap_items}
+use Rattle.qasm_reader.specs.Gates.{applied}
 use Rattle.qasm_reader.specs.Operand.{alike, barrier_items, barrier_of, cell_count, cell_of, cells, first_cell, gate_items, is_whole, measure_item, measure_items, reset_item, reset_items, times, with_mentions}
 use Rattle.qasm_reader.specs.Sound.{AreApart, HasCell, IsGateOfItems, LiesBelow}
+use Rattle.gate_defs.proofs.Fitting.{gate_fits}
+use Rattle.gate_defs.proofs.Good.{ccx_fits, ccx_within, cswap_fits, cswap_within}
 use Rattle.qasm_reader.proofs.Cells.{cells_below, distinct_cells, each_has_cell, is_cell}
 
 -- the item keeps the rule, and is on these qubits and bits
@@ -31,82 +33,13 @@ below_nothing n = All-nil (λ (b : Bit). b.0 < n)
 below_one : (n a : ℕ) → a < n → All (λ (q : Qubit). q.0 < n) (qubit a ∷ [])
 below_one n a below = All-cons (λ (q : Qubit). q.0 < n) (qubit a) [] below (All-nil (λ (q : Qubit). q.0 < n))
 
-below_two : (n a b : ℕ) → a < n → b < n → All (λ (q : Qubit). q.0 < n) (qubit a ∷ qubit b ∷ [])
-below_two n a b below_a below_b = All-cons (λ (q : Qubit). q.0 < n) (qubit a) (qubit b ∷ []) below_a (below_one n b below_b)
-
 -- ---- gates
-
--- a gate on one qubit
-pub gate_one : (name : List ℕ) (angles : List (List ℕ)) (a : ℕ) → IsName name → IsGateName name → AreAngles angles → Fits (gate_item Gate1 name angles (a ∷ []))
-gate_one name angles a is_name is_gate are = record { name = is_name; angles = are; cond = tt; distinct = refl; kind = (refl, refl, is_gate) }
-
-distinct_two : (a b : ℕ) → (b == a) ≡ false → are_distinct (qubit a ∷ qubit b ∷ []) ≡ true
-distinct_two a b apart = ap (λ (x : Bool). not (x || false) && true) apart
-
--- and on two
-pub gate_two :
-    (name : List ℕ) (angles : List (List ℕ)) (a b : ℕ) → IsName name → IsGateName name → AreAngles angles → are_distinct (qubit a ∷ qubit b ∷ []) ≡ true
-    → Fits (gate_item Gate2 name angles (a ∷ b ∷ []))
-gate_two name angles a b is_name is_gate are apart =
-    record { name = is_name; angles = are; cond = tt; distinct = apart; kind = (refl, refl, is_gate) }
 
 pub no_angles : AreAngles []
 no_angles = (refl, omega arith)
 
--- a test that the name can be that of a gate's item
-abbrev pub can_be_name : List ℕ → Bool
-can_be_name name =
-    is_word name
-    && (nat_le (length name) 64 && (not (bytes_eq name (codes "measure")) && (not (bytes_eq name (codes "reset")) && not (bytes_eq name (codes "barrier")))))
-
-other_name : (name other : List ℕ) → not (bytes_eq name other) ≡ true → name ≢ other
-other_name name other apart = λ same. false≢true (sym (not_from_true (bytes_eq name other) ((bytes_eq-Decides name other).1 same)) ∙ apart)
-
-pub names : (name : List ℕ) → can_be_name name ≡ true → IsName name × IsGateName name
-names name can =
-    let word = and_parts (is_word name) _ can in
-    let size = and_parts (nat_le (length name) 64) _ word.1 in
-    let measure = and_parts (not (bytes_eq name (codes "measure"))) _ size.1 in
-    let reset = and_parts (not (bytes_eq name (codes "reset"))) _ measure.1 in (
-      (word.0, leb-true (length name) 64 size.0),
-      (other_name name _ measure.0, other_name name _ reset.0, other_name name _ reset.1),
-    )
-
--- a gate that every circuit may have
-pub plain_one : (name : List ℕ) (a : ℕ) → can_be_name name ≡ true → Fits (one name a)
-plain_one name a can = let n = names name can in gate_one name [] a n.0 n.1 no_angles
-
-pub plain_cx : (a b : ℕ) → (b == a) ≡ false → Fits (cx a b)
-plain_cx a b apart = let n = names (codes "cx") refl in gate_two (codes "cx") [] a b n.0 n.1 no_angles (distinct_two a b apart)
-
--- three numbers that are apart
-pub record AreThree (a b c : ℕ) : Type 0 where
-  pub ba : (b == a) ≡ false
-  pub ca : (c == a) ≡ false
-  pub cb : (c == b) ≡ false
-
 swapped : (a b : ℕ) → (b == a) ≡ false → (a == b) ≡ false
 swapped a b apart = ne_eqb a b (λ same. eqb-false b a apart (sym same))
-
-three_from : (a b c : ℕ) → are_distinct (qubit a ∷ qubit b ∷ qubit c ∷ []) ≡ true → AreThree a b c
-three_from a b c distinct =
-    let first = and_parts (not ((b == a) || ((c == a) || false))) _ distinct in
-    let second = and_parts (not ((c == b) || false)) _ first.1 in
-    let one = or_parts (b == a) _ (not_was _ first.0) in
-    record { ba = one.0; ca = (or_parts (c == a) false one.1).0; cb = (or_parts (c == b) false (not_was _ second.0)).0 }
-  where
-    not_was : (x : Bool) → not x ≡ true → x ≡ false
-    not_was true is = absurd (false≢true is)
-    not_was false is = refl
-
--- ---- what each of a list of gates is
-
-good_one : (m n : ℕ) (name : List ℕ) (a : ℕ) → can_be_name name ≡ true → a < m → IsGood m n (one name a)
-good_one m n name a can below = record { fits = plain_one name a can; within = record { qubits_below = below_one m a below; bits_below = below_nothing n } }
-
-good_cx : (m n a b : ℕ) → (b == a) ≡ false → a < m → b < m → IsGood m n (cx a b)
-good_cx m n a b apart below_a below_b =
-    record { fits = plain_cx a b apart; within = record { qubits_below = below_two m a b below_a below_b; bits_below = below_nothing n } }
 
 -- of each item
 abbrev pub AllGood : ℕ → ℕ → List ItemData → Type 0
@@ -125,22 +58,19 @@ pub good_within : (m n : ℕ) (ds : List ItemData) → AllGood m n ds → All (I
 good_within m n [] good = All-nil (IsWithin m n)
 good_within m n (d ∷ ds) good = All-cons (IsWithin m n) d ds good.0.within (good_within m n ds good.1)
 
-pub good_ccx : (m n a b c : ℕ) → AreThree a b c → a < m → b < m → c < m → AllGood m n (ccx_items a b c)
-good_ccx m n a b c three below_a below_b below_c =
-    let h = good_one m n (codes "h") in
-    let t = good_one m n (codes "t") in
-    let tdg = good_one m n (codes "tdg") in
-    let b_c = good_cx m n b c three.cb below_b below_c in
-    let a_c = good_cx m n a c three.ca below_a below_c in
-    let a_b = good_cx m n a b three.ba below_a below_b in
-    let h_c = h c refl below_c in
-    let tdg_c = tdg c refl below_c in
-    let t_c = t c refl below_c in (h_c, (b_c, (tdg_c, (a_c, (t_c, (b_c, (tdg_c, (a_c, (t b refl below_b, (t_c, (h_c, (a_b, (t a refl below_a, (tdg b refl below_b, (a_b, tt)))))))))))))))
+good_both : (m n : ℕ) (ds : List ItemData) → AllByRecursion Fits ds → AllByRecursion (IsWithin m n) ds → AllGood m n ds
+good_both m n [] fit within = tt
+good_both m n (d ∷ ds) fit within = (record { fits = fit.0; within = within.0 }, good_both m n ds fit.1 within.1)
 
-pub good_cswap : (m n a b c : ℕ) → AreThree a b c → a < m → b < m → c < m → AllGood m n (cswap_items a b c)
-good_cswap m n a b c three below_a below_b below_c =
-    let c_b = good_cx m n c b (swapped b c three.cb) below_c below_b in
-    (c_b, good_append m n (ccx_items a b c) (cx c b ∷ []) (good_ccx m n a b c three below_a below_b below_c) (c_b, tt))
+-- a gate on three qubits
+good_three : (m n : ℕ) (b : Bool) (x y z : ℕ) → are_distinct (map qubit (x ∷ y ∷ z ∷ [])) ≡ true → All (λ (q : Qubit). q.0 < m) (map qubit (x ∷ y ∷ z ∷ []))
+    → AllGood m n (if b then ccx_items (qubit x) (qubit y) (qubit z) None else cswap_items (qubit x) (qubit y) (qubit z) None)
+good_three m n true x y z distinct below =
+    let on = map qubit (x ∷ y ∷ z ∷ []) in
+    good_both m n (ccx_items (qubit x) (qubit y) (qubit z) None) (ccx_fits on None distinct tt) (ccx_within m n on None below (below_nothing n))
+good_three m n false x y z distinct below =
+    let on = map qubit (x ∷ y ∷ z ∷ []) in
+    good_both m n (cswap_items (qubit x) (qubit y) (qubit z) None) (cswap_fits on None distinct tt) (cswap_within m n on None below (below_nothing n))
 
 -- one application of a gate
 pub good_applied :
@@ -149,41 +79,20 @@ pub good_applied :
 good_applied m n g angles [] is_gate are distinct below = tt
 good_applied m n g angles (a ∷ []) is_gate are distinct below = (
   record {
-    fits = gate_one g.name angles a is_gate.name is_gate.gate_name are;
-    within = record { qubits_below = below_one m a (All-head (λ i. i < m) a [] below); bits_below = below_nothing n };
+    fits = gate_fits g.name angles (map qubit (a ∷ [])) None is_gate.name is_gate.gate_name are distinct tt (omega arith) (omega arith);
+    within = record { qubits_below = All-map (λ (q : Qubit). q.0 < m) qubit (a ∷ []) below; bits_below = below_nothing n };
   },
   tt,
 )
 good_applied m n g angles (a ∷ b ∷ []) is_gate are distinct below = (
   record {
-    fits = gate_two g.name angles a b is_gate.name is_gate.gate_name are distinct;
-    within = record {
-      qubits_below = below_two m a b (All-head (λ i. i < m) a (b ∷ []) below) (All-head (λ i. i < m) b [] (All-tail (λ i. i < m) a (b ∷ []) below));
-      bits_below = below_nothing n;
-    };
+    fits = gate_fits g.name angles (map qubit (a ∷ b ∷ [])) None is_gate.name is_gate.gate_name are distinct tt (omega arith) (omega arith);
+    within = record { qubits_below = All-map (λ (q : Qubit). q.0 < m) qubit (a ∷ b ∷ []) below; bits_below = below_nothing n };
   },
   tt,
 )
-good_applied m n g angles (a ∷ b ∷ c ∷ []) is_gate are distinct below = by_name (bytes_eq g.name (codes "ccx"))
-  where
-    three : AreThree a b c
-    three = three_from a b c distinct
-
-    below_bc : All (λ i. i < m) (b ∷ c ∷ [])
-    below_bc = All-tail (λ i. i < m) a (b ∷ c ∷ []) below
-
-    below_a : a < m
-    below_a = All-head (λ i. i < m) a (b ∷ c ∷ []) below
-
-    below_b : b < m
-    below_b = All-head (λ i. i < m) b (c ∷ []) below_bc
-
-    below_c : c < m
-    below_c = All-head (λ i. i < m) c [] (All-tail (λ i. i < m) b (c ∷ []) below_bc)
-
-    by_name : (x : Bool) → AllGood m n (if x then ccx_items a b c else cswap_items a b c)
-    by_name true = good_ccx m n a b c three below_a below_b below_c
-    by_name false = good_cswap m n a b c three below_a below_b below_c
+good_applied m n g angles (a ∷ b ∷ c ∷ []) is_gate are distinct below =
+    good_three m n (bytes_eq g.name (codes "ccx")) a b c distinct (All-map (λ (q : Qubit). q.0 < m) qubit (a ∷ b ∷ c ∷ []) below)
 good_applied m n g angles (a ∷ b ∷ c ∷ d ∷ on) is_gate are distinct below = tt
 
 -- the applications of a gate, from the first of them on
@@ -362,16 +271,6 @@ good_barrier m n (o ∷ os) some below =
       },
       tt,
     )
-
--- ---- steps
-
--- the items of ccx and of what cswap has around it
-pub steps_fit : (a b c : ℕ) → are_distinct (qubit a ∷ qubit b ∷ qubit c ∷ []) ≡ true → All Fits (ccx_items a b c)
-steps_fit a b c distinct =
-    let n = a + b + c + 1 in good_fits n n (ccx_items a b c) (good_ccx n n a b c (three_from a b c distinct) (omega arith) (omega arith) (omega arith))
-
-pub around_fits : (a b c : ℕ) → are_distinct (qubit a ∷ qubit b ∷ qubit c ∷ []) ≡ true → All Fits (cx c b ∷ [])
-around_fits a b c distinct = All-cons Fits (cx c b) [] (plain_cx c b (swapped b c (three_from a b c distinct).cb)) (All-nil Fits)
 
 pub cells_some : (m : ℕ) (os : List Operand) → 1 ≤ length os → All (LiesBelow m) os → 1 ≤ length (flat_map cells os)
 cells_some m [] some below = absurd (omega (arith, some))

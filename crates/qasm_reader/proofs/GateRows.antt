@@ -4,7 +4,7 @@ use Rattle.std.specs.List.{filter}
 use Rattle.std.specs.Str.{bytes_eq}
 use Rattle.std.proofs.lemmas.Bool.{eq-eqb, false≢true}
 use Rattle.std.proofs.lemmas.Slice.Eq.{bytes_eq-Decides}
-use Rattle.qasm_reader.specs.Gates.{Gate, gate_in}
+use Rattle.gate_defs.specs.Gates.{Gate, gate_in}
 
 pub in_class :
     (class : List ℕ → ℕ) (gs : List Gate) (name : List ℕ) → gate_in gs name ≡ gate_in (filter (λ g. eqb (class g.name) (class name)) gs) name

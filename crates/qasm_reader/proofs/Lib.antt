@@ -1,4 +1,3 @@
-pub mod NameLemmas
 pub mod Leading
 pub mod Steps
 pub mod Accepts

@@ -1,21 +1,19 @@
 -- The application of a gate without angles on one or two cells, step by step.
-use Rattle.std.proofs.Common.{◌≡◌, ℕ, Bool, true, false, not, List, [], ◌∷◌, ◌++◌, Option, Some, Ok, refl, ap, ◌∙◌, ◌+◌, ◌&&◌, ◌||◌, arith}
+use Rattle.std.proofs.Common.{◌≡◌, ℕ, Bool, true, false, not, List, [], ◌∷◌, ◌++◌, Some, Ok, refl, ap, ◌∙◌, ◌+◌, ◌&&◌, ◌||◌, arith}
 use Rattle.std.specs.Prelude.{nat_lt}
-use Rattle.std.specs.Str.{bytes_eq}
-use Rattle.std.specs.List.{list_all}
 use Rattle.std.proofs.lemmas.Bool.{and_parts, false≢true, ltb-true, not_from_true}
-use Rattle.std.proofs.lemmas.Slice.Eq.{bytes_eq-Decides}
 use Rattle.qasm_lex.specs.declared.tokens.TokenKind.TheVariants as token
 use Rattle.qasm_reader.specs.declared.fault.QasmKind.TheVariants as kind
 use Rattle.qasm_reader.specs.declared.kinds.Opening.{Opening}
 use Rattle.qasm_reader.specs.declared.kinds.Opening.TheVariants as opening
 use Rattle.qasm_reader.specs.Check.{wrong}
-use Rattle.qasm_reader.specs.Gates.{Gate, always, gate_in, gate_of, included}
+use Rattle.gate_defs.specs.Gates.{Gate, always, gate_of, included}
 use Rattle.qasm_reader.specs.Known.{Known}
 use Rattle.qasm_reader.specs.Lexeme.{Lexeme, is, opening_of}
 use Rattle.qasm_reader.specs.declared.kinds.Cell.{Cell}
 use Rattle.qasm_reader.specs.Operand.{cell_of, cell_operand, share}
 use Rattle.qasm_reader.specs.Expected.{begin, begin_as, begin_gate, behind_gate, behind_operand, between, call, gate_name, of_gate, operand_done, step, with_operand}
+use Rattle.gate_defs.proofs.Fitting.{holds_in}
 use Rattle.qasm_reader.proofs.Ends.{past}
 
 -- ---- the names of gates
@@ -44,22 +42,10 @@ gate_from opening.Gate is = refl
 abbrev names_gate : List ℕ → Bool
 names_gate bytes = is_gate (opening_of bytes) && gate_name true (record { kind = token.Word; at = 0; bytes = bytes })
 
--- what is true of the names in a table is true of each that is found there
-named_in : (gs : List Gate) (name : List ℕ) (g : Gate) → list_all (λ g. names_gate g.name) gs ≡ true → gate_in gs name ≡ Some g → names_gate name ≡ true
-named_in [] name g all found = cc
-named_in (h ∷ gs) name g all found =
-    let parts = and_parts (names_gate h.name) (list_all (λ g. names_gate g.name) gs) all in
-    by_name (bytes_eq name h.name) refl found parts.0 (named_in gs name g parts.1)
-  where
-    by_name :
-        (here : Bool) → bytes_eq name h.name ≡ here → elim here as (λ _. Option Gate) [ true ↦ Some h | false ↦ gate_in gs name ] ≡ Some g
-        → names_gate h.name ≡ true → (gate_in gs name ≡ Some g → names_gate name ≡ true) → names_gate name ≡ true
-    by_name true same found first others = ap names_gate ((bytes_eq-Decides name h.name).0 same) ∙ first
-    by_name false same found first others = others found
-
+-- each name of a known gate is one
 named : (after : Bool) (name : List ℕ) (g : Gate) → gate_of after name ≡ Some g → names_gate name ≡ true
-named false name g found = named_in always name g refl found
-named true name g found = named_in (always ++ included) name g refl found
+named false name g found = holds_in (λ n h. names_gate n) always name g refl found
+named true name g found = holds_in (λ n h. names_gate n) (always ++ included) name g refl found
 
 -- the name of a known gate leads to what is behind it
 pub gate_step : (k : Known) (l : Lexeme) (g : Gate) → l.kind ≡ token.Word → gate_of k.included l.bytes ≡ Some g → step k between l ≡ Ok (k, behind_gate (call g))

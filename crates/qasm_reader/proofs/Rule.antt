@@ -19,7 +19,7 @@ use Rattle.qasm_reader.specs.declared.kinds.Register.{Register}
 use Rattle.qasm_reader.specs.declared.kinds.Operand.{Operand}
 use Rattle.qasm_reader.specs.Lexeme.{Lexeme, has_angle_bytes, is, lexemes, number}
 use Rattle.qasm_reader.specs.Angle.{angle_state}
-use Rattle.qasm_reader.specs.Gates.{Gate, always, gate_in, gate_of, included}
+use Rattle.gate_defs.specs.Gates.{Gate, always, gate_of, included}
 use Rattle.qasm_reader.specs.Known.{Known, count_of, nothing, with_items, with_name, with_register}
 use Rattle.qasm_reader.specs.Operand.{differ, measure_items, reset_items, share}
 use Rattle.qasm_reader.specs.Expected.{Call, Role, of_gate, of_left, of_right, of_reset, of_barrier, call, is_of, listed_items, operand_last, operand_name, wanted, with_angle, with_operand}
@@ -29,7 +29,8 @@ use Rattle.qasm_reader.specs.Reading.{IsCircuitOf}
 use Rattle.qasm_reader.specs.Sound.{AreApart, IsGateOfItems, IsRegisterOf, IsSound, LiesBelow}
 use Rattle.qasm_reader.proofs.AngleTexts.{IsAngleFrom, angle_from}
 use Rattle.qasm_reader.proofs.Cells.{apart_more}
-use Rattle.qasm_reader.proofs.Fitting.{AllGood, can_be_name, good_barrier, good_fits, good_gate, good_measures, good_resets, good_within, names}
+use Rattle.qasm_reader.proofs.Fitting.{AllGood, good_barrier, good_fits, good_gate, good_measures, good_resets, good_within}
+use Rattle.gate_defs.proofs.Fitting.{can_be_name, holds_in, names}
 use Rattle.qasm_reader.proofs.Steps.{not_false}
 use Rattle.qasm_reader.proofs.TokenBytes.{angle_bytes, step_bytes, token_size}
 
@@ -51,22 +52,6 @@ given_back (x ∷ xs) ys given = given_back xs ys given.2
 abbrev can_be : Gate → Bool
 can_be g = can_be_name g.name && nat_le g.angles 16
 
-gate_found : (gs : List Gate) (name : List ℕ) (g : Gate) → list_all can_be gs ≡ true → gate_in gs name ≡ Some g → can_be g ≡ true
-gate_found [] name g each found = absurd (none_some found)
-  where
-    none_some : Rattle.std.specs.Prelude.◌≡◌ {A = Option Gate} None (Some g) → ⊥
-    none_some same = cc
-gate_found (h ∷ gs) name g each found = by_name (bytes_eq name h.name) (and_parts (can_be h) (list_all can_be gs) each) (λ all more. gate_found gs name g all more) found
-  where
-    some_same : Rattle.std.specs.Prelude.◌≡◌ {A = Option Gate} (Some h) (Some g) → h ≡ g
-    some_same same = cc
-
-    by_name :
-        (b : Bool) → (can_be h ≡ true) × (list_all can_be gs ≡ true) → (list_all can_be gs ≡ true → gate_in gs name ≡ Some g → can_be g ≡ true)
-        → elim b as (λ _. Option Gate) [ true ↦ Some h | false ↦ gate_in gs name ] ≡ Some g → can_be g ≡ true
-    by_name true parts more found = subst (λ (x : Gate). can_be x ≡ true) (some_same found) parts.0
-    by_name false parts more found = more parts.1 found
-
 pub gate_of_items : (b : Bool) (name : List ℕ) (g : Gate) → gate_of b name ≡ Some g → IsGateOfItems g
 gate_of_items b name g found =
     let parts = and_parts (can_be_name g.name) _ (by_include b found) in
@@ -74,8 +59,8 @@ gate_of_items b name g found =
     record { name = n.0; gate_name = n.1; few = leb-true g.angles 16 parts.1 }
   where
     by_include : (b : Bool) → gate_of b name ≡ Some g → can_be g ≡ true
-    by_include true found = gate_found (always ++ included) name g refl found
-    by_include false found = gate_found always name g refl found
+    by_include true found = holds_in (λ n h. can_be h) (always ++ included) name g refl found
+    by_include false found = holds_in (λ n h. can_be h) always name g refl found
 
 -- ---- angles
 

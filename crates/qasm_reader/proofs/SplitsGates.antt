@@ -11,7 +11,7 @@ use Rattle.qasm_reader.specs.declared.kinds.Opening.{Opening}
 use Rattle.qasm_reader.specs.declared.kinds.Opening.TheVariants as opening
 use Rattle.qasm_reader.specs.Lexeme.{Lexeme, is, number, opening_of}
 use Rattle.qasm_reader.specs.Check.{unless}
-use Rattle.qasm_reader.specs.Gates.{Gate, gate_of}
+use Rattle.gate_defs.specs.Gates.{Gate, gate_of}
 use Rattle.qasm_reader.specs.Known.{Known, with_include, with_register, with_items, circuit_of}
 use Rattle.qasm_reader.specs.declared.angle.Phase.TheVariants.{Part}
 use Rattle.qasm_reader.specs.declared.angle.AngleState.{AngleState}

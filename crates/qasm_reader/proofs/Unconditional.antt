@@ -4,12 +4,16 @@ use Rattle.std.specs.Prelude.{flat_map}
 use Rattle.std.specs.Str.{bytes_eq}
 use Rattle.std.specs.List.{AllByRecursion, range_with_len}
 use Rattle.std.proofs.lemmas.List.Elements.{All-from_recursion}
+use Rattle.qccd_base.specs.Names.{qubit}
+use Rattle.qccd_base.specs.declared.names.Qubit.{Qubit}
 use Rattle.qccd_circuit.specs.Circuit.{CircuitData}
 use Rattle.qccd_circuit.specs.Item.{ItemData}
 use Rattle.qasm_reader.specs.declared.kinds.RegisterKind.{RegisterKind}
 use Rattle.qasm_reader.specs.declared.kinds.RegisterKind.TheVariants.{Quantum, Classical}
 use Rattle.qasm_reader.specs.Expected.{Role, of_gate, of_left, of_right, of_reset, of_barrier, listed_items}
-use Rattle.qasm_reader.specs.Gates.{Gate, ccx_items, cswap_items, cx, applied}
+use Rattle.gate_defs.specs.Gates.{Gate}
+use Rattle.gate_defs.specs.Items.{ccx_items, cswap_items, cx}
+use Rattle.qasm_reader.specs.Gates.{applied}
 use Rattle.qasm_reader.specs.Known.{Known, nothing, with_register, with_items}
 use Rattle.qasm_reader.specs.Lexeme.{Lexeme}
 use Rattle.qasm_reader.specs.Operand.{cell_of, times, measure_item, reset_item}
@@ -36,17 +40,18 @@ either_free : (b : Bool) (xs ys : List ItemData) → AreFree xs → AreFree ys �
 either_free true xs ys first second = first
 either_free false xs ys first second = second
 
-ccx_free : (a b c : ℕ) → AreFree (ccx_items a b c)
+ccx_free : (a b c : Qubit) → AreFree (ccx_items a b c None)
 ccx_free a b c = (refl, (refl, (refl, (refl, (refl, (refl, (refl, (refl, (refl, (refl, (refl, (refl, (refl, (refl, (refl, tt)))))))))))))))
 
-cswap_free : (a b c : ℕ) → AreFree (cswap_items a b c)
-cswap_free a b c = (refl, both_free (ccx_items a b c) (cx c b ∷ []) (ccx_free a b c) (refl, tt))
+cswap_free : (a b c : Qubit) → AreFree (cswap_items a b c None)
+cswap_free a b c = (refl, both_free (ccx_items a b c None) (cx c b None ∷ []) (ccx_free a b c) (refl, tt))
 
 applied_free : (g : Gate) (angles : List (List ℕ)) (on : List ℕ) → AreFree (applied g angles on)
 applied_free g angles [] = tt
 applied_free g angles (a ∷ []) = (refl, tt)
 applied_free g angles (a ∷ b ∷ []) = (refl, tt)
-applied_free g angles (a ∷ b ∷ c ∷ []) = either_free (bytes_eq g.name (codes "ccx")) (ccx_items a b c) (cswap_items a b c) (ccx_free a b c) (cswap_free a b c)
+applied_free g angles (a ∷ b ∷ c ∷ []) = either_free (bytes_eq g.name (codes "ccx")) (ccx_items (qubit a) (qubit b) (qubit c) None) (cswap_items (qubit a) (qubit b) (qubit c) None) (ccx_free (qubit a) (qubit b) (qubit c))
+    (cswap_free (qubit a) (qubit b) (qubit c))
 applied_free g angles (a ∷ b ∷ c ∷ d ∷ on) = tt
 
 listed_free : (role : Role) → AreFree (listed_items role)

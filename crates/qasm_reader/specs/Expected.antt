@@ -16,7 +16,7 @@ use Rattle.qasm_reader.specs.declared.kinds.Operand.{Operand}
 use Rattle.qasm_reader.specs.declared.kinds.Register.{Register}
 use Rattle.qasm_reader.specs.Lexeme.{Lexeme, is, is_exactly, is_identifier, number, opening_of}
 use Rattle.qasm_reader.specs.Check.{Fault, Check, wrong, unless}
-use Rattle.qasm_reader.specs.Gates.{Gate, gate_of}
+use Rattle.gate_defs.specs.Gates.{Gate, gate_of}
 use Rattle.qasm_reader.specs.Known.{Known, is_declared, count_of, with_include, with_register, with_items}
 use Rattle.qasm_reader.specs.Operand.{differ, share, alike, gate_items, measure_items, reset_items, barrier_items}
 use Rattle.qasm_reader.specs.declared.angle.Phase.TheVariants.{Part, Paren, Whole}

@@ -2,7 +2,6 @@ pub mod Kind
 pub mod Lexeme
 pub mod Check
 pub mod Gates
-pub mod Steps
 pub mod Known
 pub mod Operand
 pub mod Angle

@@ -8,7 +8,7 @@ use Rattle.std.specs.Ordering.{nat_cmp}
 use Rattle.qasm_reader.specs.declared.gates.KnownGate.{KnownGate}
 use Rattle.qasm_reader.specs.declared.kinds.Register.{Register}
 use Rattle.qasm_reader.specs.declared.names.Names.{Names}
-use Rattle.qasm_reader.specs.Gates.{Gate}
+use Rattle.gate_defs.specs.Gates.{Gate}
 
 -- the register that a name stands for: that of the first name, or of one in the map
 abbrev pub stands_for : Names → List ℕ → Option Register

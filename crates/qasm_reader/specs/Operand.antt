@@ -6,7 +6,8 @@ use Rattle.qccd_circuit.specs.declared.kinds.ItemKind.TheVariants.{Measure, Rese
 use Rattle.qccd_circuit.specs.Item.{ItemData}
 use Rattle.qasm_reader.specs.declared.kinds.Cell.{Cell}
 use Rattle.qasm_reader.specs.declared.kinds.Operand.{Operand}
-use Rattle.qasm_reader.specs.Gates.{Gate, applied}
+use Rattle.gate_defs.specs.Gates.{Gate}
+use Rattle.qasm_reader.specs.Gates.{applied}
 
 abbrev pub is_whole : Operand → Bool
 is_whole o = is_none o.index

@@ -5,7 +5,7 @@ use Rattle.qccd_circuit.specs.Circuit.{IsCircuit}
 use Rattle.qccd_circuit.specs.Item.{IsName, IsGateName}
 use Rattle.qasm_reader.specs.declared.kinds.Register.{Register}
 use Rattle.qasm_reader.specs.declared.kinds.Operand.{Operand}
-use Rattle.qasm_reader.specs.Gates.{Gate}
+use Rattle.gate_defs.specs.Gates.{Gate}
 use Rattle.qasm_reader.specs.Known.{Known, circuit_of, count_of}
 use Rattle.qasm_reader.specs.Operand.{cell_count, differ, first_cell, is_whole, share}
 

@@ -12,12 +12,12 @@ ghost use Rattle.qasm_reader.specs.Mentioned.{AreMentioned, AreReached, AreSeen,
 use crate::cursor::Cursor;
 use crate::fault::QasmFault;
 use crate::gate_statements::{too_many, too_many_items};
-use crate::items::item_on;
 use crate::kinds::{Operand, RegisterKind};
 use crate::operand::{comma, operand};
 use crate::operands::{cell_count, first_cell};
 use crate::pieces::semicolon;
 use crate::state::State;
+use gate_defs::item_on;
 use qccd_base::Qubit;
 use qccd_circuit::{AngleList, ItemKind};
 use std::alloc::{AllocError, Global};
@@ -133,7 +133,7 @@ pub(crate) fn barrier<'a>(
         return Err(too_many_items(&end));
     }
     let angles = AngleList::of(Vec::new(alloc));
-    let item = item_on(alloc, ItemKind::Barrier, b"barrier", angles, &qubits)?;
+    let item = item_on(alloc, ItemKind::Barrier, b"barrier", angles, &qubits, None)?;
     state.items.push(item)?;
     Ok(rest)
 }

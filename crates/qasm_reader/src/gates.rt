@@ -2,7 +2,7 @@
 
 ghost use Rattle.std.specs.Prelude.{◌≡◌, ◌==◌, map, option_map, true};
 ghost use Rattle.qasm_lex.specs.Runs.{begins};
-ghost use Rattle.qasm_reader.specs.Gates.{gate_in, gate_of};
+ghost use Rattle.gate_defs.specs.Gates.{gate_in, gate_of};
 ghost use Rattle.qasm_reader.specs.Named.{row_gate, shape};
 
 use crate::words::same;

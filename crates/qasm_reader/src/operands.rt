@@ -4,7 +4,7 @@ ghost use Rattle.std.specs.Prelude.{◌≡◌, ◌+◌, ◌<◌, ℕ, [], All, I
 ghost use Rattle.qasm_lex.specs.declared.tokens.TokenKind.TheVariants as token;
 ghost use Rattle.std.specs.List.{list_any};
 ghost use Rattle.qasm_reader.specs.Operand.{cell_count, differ, first_cell, is_whole, share};
-ghost use Rattle.qasm_reader.specs.Gates.{Gate};
+ghost use Rattle.gate_defs.specs.Gates.{Gate};
 ghost use Rattle.qasm_reader.specs.Known.{Known};
 ghost use Rattle.qasm_reader.specs.Sound.{AreApart, IsSound, LiesBelow};
 ghost use Rattle.qasm_reader.specs.Expected.{Call, behind_operand, of_gate, operand, operand_done, with_operand};

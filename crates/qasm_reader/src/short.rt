@@ -17,12 +17,12 @@ ghost use Rattle.qasm_reader.specs.Code.{ahead, answer_behind, answer_from, know
 use crate::cursor::Cursor;
 use crate::gate_statements::too_many;
 use crate::gates::{KnownGate, gate_of};
-use crate::items::item_on;
 use crate::kinds::{Cell, Register, RegisterKind};
 use crate::operand::{comma, open_bracket};
 use crate::pieces::number;
 use crate::state::State;
 use crate::words::is_identifier;
+use gate_defs::item_on;
 use qasm_lex::TokenKind;
 use qccd_base::{NoMemory, Qubit};
 use qccd_circuit::{AngleList, ItemKind};
@@ -150,7 +150,7 @@ fn add_item(
         ≡ with_items (known state.old) (record { kind = kind; name = name.now; angles = []; qubits = on.now; bits = []; cond = None } ∷ [])) }
 {
     let angles = AngleList::of(Vec::new(alloc));
-    let item = item_on(alloc, kind, name, angles, on)?;
+    let item = item_on(alloc, kind, name, angles, on, None)?;
     state.items.push(item)?;
     Ok(())
 }

@@ -14,13 +14,14 @@ use crate::barriers::barrier;
 use crate::cursor::{Cursor, Piece};
 use crate::fault::{QasmFault, QasmKind};
 use crate::gate_statements::{gate, own_turns, too_many, too_many_items};
-use crate::items::{cell_of, item_on, measurement};
+use crate::items::{cell_of, measurement};
 use crate::kinds::{Opening, Operand, RegisterKind};
 use crate::operand::operand;
 use crate::pieces::{refused, semicolon, sign, statement_end};
 use crate::registers::register;
 use crate::state::State;
 use crate::words::{is, opening_of, same};
+use gate_defs::item_on;
 use qasm_lex::TokenKind;
 use qccd_base::{Bit, NoMemory, Qubit};
 use qccd_circuit::{AngleList, ItemKind};
@@ -145,7 +146,7 @@ fn add_resets(alloc: Global, state: &mut State, on: &Operand) -> Result<(), NoMe
     for turn in 0..own_turns(on) {
         let angles = AngleList::of(Vec::new(alloc));
         let qubits = [Qubit(cell_of(turn, on))];
-        let item = item_on(alloc, ItemKind::Reset, b"reset", angles, &qubits)?;
+        let item = item_on(alloc, ItemKind::Reset, b"reset", angles, &qubits, None)?;
         state.items.push(item)?;
     }
     Ok(())

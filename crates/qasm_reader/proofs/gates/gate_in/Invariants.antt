@@ -1,5 +1,5 @@
 use Rattle.std.proofs.Common.{◌≡◌, map, length}
-use Rattle.qasm_reader.specs.Gates.{gate_in}
+use Rattle.gate_defs.specs.Gates.{gate_in}
 use Rattle.qasm_reader.specs.Named.{row_gate}
 use Rattle.qasm_reader.proofs.gates.gate_in.Given as goal
 

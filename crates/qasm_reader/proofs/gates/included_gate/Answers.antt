@@ -3,7 +3,7 @@ use Rattle.std.proofs.Common.{◌≡◌, ℕ, cond, eqb, List, ◌++◌, length,
 use Rattle.std.specs.List.{filter}
 use Rattle.std.proofs.lemmas.Bool.{cond-false, cond-true, eq-eqb, ne_eqb}
 use Rattle.qasm_lex.specs.Runs.{begins}
-use Rattle.qasm_reader.specs.Gates.{always, gate_in, gate_of, included}
+use Rattle.gate_defs.specs.Gates.{always, gate_in, gate_of, included}
 use Rattle.qasm_reader.proofs.GateRows.{in_class}
 use Rattle.qasm_reader.proofs.gates.included_gate.Goals as goal
 

@@ -3,7 +3,7 @@ use Rattle.std.proofs.Common.{◌≡◌, ℕ, false, List, ◌∷◌, ◌++◌, 
 use Rattle.std.specs.List.{list_any}
 use Rattle.std.proofs.lemmas.List.Elements.{All-push}
 use Rattle.qasm_reader.specs.declared.kinds.Operand.{Operand}
-use Rattle.qasm_reader.specs.Gates.{Gate}
+use Rattle.gate_defs.specs.Gates.{Gate}
 use Rattle.qasm_reader.specs.Operand.{differ, share}
 use Rattle.qasm_reader.specs.Expected.{Call, Role, behind_operand, of_gate, operand_done}
 use Rattle.qasm_reader.specs.Sound.{AreApart, LiesBelow}

@@ -1,5 +1,5 @@
 use Rattle.std.proofs.Common.{◌≡◌, ℕ, ◌<◌, [], All, List, false, length}
-use Rattle.qasm_reader.specs.Gates.{Gate}
+use Rattle.gate_defs.specs.Gates.{Gate}
 use Rattle.qasm_reader.specs.Expected.{operand, behind_operand, of_gate}
 use Rattle.qasm_reader.specs.Sound.{AreApart, LiesBelow}
 use Rattle.qasm_reader.specs.Code.{ahead, answer_from, known}

@@ -2,7 +2,7 @@
 use Rattle.std.proofs.Common.{Bool, sym, ap, ◌∙◌}
 use Rattle.std.specs.Prelude.{option_map}
 use Rattle.qasm_reader.specs.Expected.{Next, between}
-use Rattle.qasm_reader.specs.Gates.{gate_of}
+use Rattle.gate_defs.specs.Gates.{gate_of}
 use Rattle.qasm_reader.specs.Named.{shape}
 use Rattle.qasm_reader.specs.Code.{answer_behind, seen}
 use Rattle.qasm_reader.proofs.Ends.{token_read}

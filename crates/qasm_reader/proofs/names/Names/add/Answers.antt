@@ -10,7 +10,7 @@ use Rattle.qasm_reader.specs.declared.kinds.Register.{Register}
 use Rattle.qasm_reader.specs.declared.names.Named.{Named}
 use Rattle.qasm_reader.specs.Known.{with_name}
 use Rattle.qasm_reader.specs.Named.{stands_for}
-use Rattle.qasm_reader.proofs.NameLemmas.{apart, lookup_inserted}
+use Rattle.gate_defs.proofs.NameLemmas.{apart, lookup_inserted}
 use Rattle.qasm_reader.proofs.names.Names.add.Goals as goal
 
 pub returns-in_ok-insert-in-Some : goal.returns-in_ok-insert-in-Some
