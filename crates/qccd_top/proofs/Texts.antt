@@ -25,7 +25,7 @@ use Rattle.qccd_program.specs.Legal.{IsLegalProgram}
 use Rattle.qccd_program.specs.Program.{ProgramData, opening_of}
 use Rattle.transport_asm.specs.ProgramText.{spelled}
 use Rattle.op_text.specs.Slots.{greatest}
-use Rattle.transport_asm.specs.Writable.{KeepsLimits, IsWritable, IsWritableChain, IsWritableRaw}
+use Rattle.transport_asm.specs.Writable.{KeepsCondLimits, KeepsLimits, IsWritable, IsWritableChain, IsWritableRaw}
 
 -- ---- what holds of each
 
@@ -104,15 +104,11 @@ limits m s (Item number t item at) valid safe kept legal plain =
     let met = all_met (needs m s (Item number t item at)) legal in
     let there = (and_parts (has_trap m t.0) (has_bits s item) met.0).0 in
     let positions = all_passing (λ k. nat_lt k (ions_in s t.0)) (λ p. p ≤ 255) (λ k before. position_small m s t.0 k valid safe there before) at met.1.0 in
-    (plain.number_small, trap_small m t.0 valid there, plain.qubits, plain.bits, positions)
+    (plain.number_small, trap_small m t.0 valid there, plain.qubits, plain.bits, positions, subst KeepsCondLimits (sym plain.unconditional) tt)
 limits m s (Fence number item traps) valid safe kept legal plain =
     let met = all_met (needs m s (Fence number item traps)) legal in
     let there = (and_parts (list_all (λ t. has_trap m t.0) traps) (has_bits s item) met.0).0 in
     (plain.number_small, all_passing (λ (t : TrapId). has_trap m t.0) (λ t. t.0 ≤ 255) (λ t is. trap_small m t.0 valid is) traps there, plain.qubits)
-
-unconditional : (e : Option (ℕ × ItemData)) → IfSome e (λ x. IsPlain x.0 x.1) → IfSome e (λ x. x.1.cond ≡ None)
-unconditional None plain = tt
-unconditional (Some e) plain = plain.unconditional
 
 ops_writable : (m : MachineData) (s : State) (ops : List OpKind) → IsValid m → IsSafe m s → AllByRecursion IsOp ops → AllByRecursion KeepsItemRule ops → IsRun m s ops
     → AllByRecursion DoesPlain ops → AllByRecursion IsWritable ops
@@ -121,7 +117,6 @@ ops_writable m s (op ∷ ops) valid safe kinds fits run plain =
     let first : IsWritable op = record {
       is_op = kinds.0;
       fits = fits.0;
-      unconditional = unconditional (item_in op) plain.0;
       limits = limits m s op valid safe kinds.0 run.0 plain.0;
     } in
     (first, ops_writable m (effect m s op) ops valid (safe-effect m s op safe kinds.0 run.0) kinds.1 fits.1 run.1 plain.1)
