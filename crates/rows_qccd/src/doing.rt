@@ -78,28 +78,17 @@ fn shelf_of(alloc: Global, files: &Files, failing: Vec<u32>) -> Result<MemShelf,
     Ok(MemShelf::of(held, failing))
 }
 
-/// Whether the shelf holds this text under the name, or none. One call that still fails is made good.
-fn holds(alloc: Global, shelf: &mut MemShelf, name: &str, text: &Option<Vec<u8>>) -> bool
+/// Whether the shelf holds this circuit, or none. One call that still fails is made good.
+fn holds_still(alloc: Global, shelf: &mut MemShelf, circuit: &Option<Vec<u8>>) -> bool
     requires { NoneIsOut (Some (holding_of shelf.old)) }
-    ensures { NoneIsOut (Some (holding_of shelf.new)) }
 {
-    let first = fetch_all(alloc, shelf, name, u32::MAX);
-    let second = fetch_all(alloc, shelf, name, u32::MAX);
-    match (first.or(second), text) {
+    let first = fetch_all(alloc, shelf, "a", u32::MAX);
+    let second = fetch_all(alloc, shelf, "a", u32::MAX);
+    match (first.or(second), circuit) {
         (Ok(bytes), Some(wanted)) => bytes.as_slice() == wanted.as_slice(),
         (Err(FetchFault::ReadFault), None) => true,
         _ => false,
     }
-}
-
-/// Whether the shelf holds these files.
-fn holds_still(alloc: Global, shelf: &mut MemShelf, files: &Files) -> bool
-    requires { NoneIsOut (Some (holding_of shelf.old)) }
-{
-    let circuit = holds(alloc, shelf, "a", &files.circuit);
-    let machine = holds(alloc, shelf, "m", &files.machine);
-    let program = holds(alloc, shelf, "p", &files.program);
-    circuit && machine && program
 }
 
 /// The words between the blanks.
@@ -158,14 +147,14 @@ fn show_once<R: AllocGlobal + Threads + Sync, W: Write>(
     let mut out = MemSink::of(alloc, ROOM, most, listed(alloc, of_text(fault))?)?;
     let mut err = MemSink::of(alloc, ROOM, most, listed(alloc, of_messages(fault))?)?;
     let status = run(rt, alloc, &words, &mut shelf, &mut out, &mut err, &NoPost);
-    let same = holds_still(alloc, &mut shelf, &row.files);
+    let same = holds_still(alloc, &mut shelf, &row.files.circuit);
     *wrote = Vec::from_slice(alloc, out.bytes())?;
     Ok(
         show_words(shown, row.words.as_str(), fault)
             && show_text(shown, out.bytes(), row.brief)
             && shown.write_all(err.bytes()).is_ok()
             && writeln!(shown, "status {}", status.0).is_ok()
-            && (same || writeln!(shown, "a file changed").is_ok()),
+            && (same || writeln!(shown, "the circuit's file changed").is_ok()),
     )
 }
 
